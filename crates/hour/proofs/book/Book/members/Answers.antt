@@ -1,0 +1,16 @@
+use mathlib.Core.Path.{refl}
+use native.Mathlib.Omega.{arith}
+use Rattle.bus_set.proofs.Sets.{marked-none, marked-turn, marked-all}
+use Rattle.hour.specs.Hour.{entries}
+use Rattle.hour.specs.Live.{belongs}
+use Rattle.hour.proofs.book.Book.members.Needs as need
+
+pub loop-b-holds : need.loop-b-holds
+loop-b-holds c = (refl, marked-none (belongs (entries (c .args .self .now)) (c .args .hub-bus)))
+
+pub loop-b-again : need.loop-b-again
+loop-b-again c =
+    marked-turn (belongs (entries (c .args .self .now)) (c .args .hub-bus)) (c .loop-b .set) (c .marked-next .result) (c .loop-b .b) _ (c .loop-b .inv) (c .loop-b-test .taken) refl (c .marked-next .ensures .value)
+
+pub returns : need.returns
+returns c = marked-all (belongs (entries (c .args .self .now)) (c .args .hub-bus)) (c .loop-b .set) (c .loop-b .b) (omega arith) (c .loop-b .inv .1)
