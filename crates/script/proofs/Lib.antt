@@ -1,0 +1,6 @@
+mod Backs
+mod Cuts
+mod Integers
+mod Lines
+mod Spaces
+mod Texts
