@@ -14,7 +14,7 @@ use Rattle.script.specs.Written.{written}
 use Rattle.script.specs.declared.commands.NotACall.{NotACall}
 use Rattle.script.specs.declared.commands.NotACall.the-variants.{Unknown, Usage}
 use Rattle.desk.specs.declared.replies.Reply.{Reply}
-use Rattle.desk.specs.declared.replies.Reply.the-variants.{Passed, Answered, Shown, Helped, Misread}
+use Rattle.desk.specs.declared.replies.Reply.the-variants.{Passed, Answered, Weighed, Shown, Helped, Misread}
 
 abbrev pub answerText : Call → Result (Unit {0}) Refusal → List ℕ
 answerText call (Ok _) = written call ++ codes ": granted"
@@ -27,6 +27,7 @@ faultText (Usage verb) = codes "not a call; write " ++ usage verb
 abbrev pub replyText : Reply → List ℕ
 replyText Passed = []
 replyText (Answered call answer) = answerText call answer
+replyText (Weighed point constraint) = []
 replyText Shown = []
 replyText Helped = []
 replyText (Misread fault) = faultText fault

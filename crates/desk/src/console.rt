@@ -3,6 +3,8 @@ use crate::replies::Reply;
 use crate::sessions::work;
 use crate::summaries::Summary;
 use crate::summaries::SummaryDisplay;
+use crate::weights::Weighing;
+use crate::weights::WeighingDisplay;
 use hour::book::Book;
 use script::verbs::Verb;
 use std::io;
@@ -31,6 +33,14 @@ fn print_reply(rt: &LibcRuntime, book: &mut Book, number: u64, line: &str) -> io
     let reply = work(book, line);
     match reply {
         Reply::Passed => Ok(()),
+        Reply::Weighed(point, constraint) => {
+            let weighing = Weighing {
+                book,
+                point,
+                constraint,
+            };
+            print!(rt, "{weighing}")
+        }
         Reply::Shown => {
             let summary = Summary { book };
             print!(rt, "{summary}")

@@ -3,3 +3,4 @@ pub mod console;
 pub mod replies;
 pub mod sessions;
 pub mod summaries;
+pub mod weights;

@@ -12,6 +12,7 @@ use script::commands::NotACall;
 use script::writing::write;
 use std::alloc::AllocError;
 use std::alloc::Global;
+use weighting::points::Point;
 
 #[derive(Clone, Copy)]
 pub enum Reply {
@@ -19,6 +20,8 @@ pub enum Reply {
     Passed,
     // A call, and what it answered.
     Answered(Call, Result<(), Refusal>),
+    // The weights of a point are asked for, in the base case or under a constraint.
+    Weighed(Point, Option<i64>),
     // The summary of the book is asked for.
     Shown,
     // The list of calls is asked for.
@@ -29,12 +32,14 @@ pub enum Reply {
 
 impl Reply {
     // The reply in words: the call as it was understood, with its answer, or what is wrong with the line.
-    // Nothing where the line is passed over, or where a summary or the list of calls is to follow.
+    // Nothing where the line is passed over, or where weights, a summary or the list of calls are to follow.
     pub fn text(&self, heap: Global) -> Result<String, AllocError>
         ensures { λ r. ⌜ made r (λ s. string-bytes s ≡ replyText (now (self .entry))) ⌝ }
     {
         match *self {
-            Reply::Passed | Reply::Shown | Reply::Helped => Ok(String::new(heap)),
+            Reply::Passed | Reply::Weighed(_, _) | Reply::Shown | Reply::Helped => {
+                Ok(String::new(heap))
+            }
             Reply::Answered(call, answer) => answer_text(heap, &call, answer),
             Reply::Misread(fault) => fault_text(heap, fault),
         }

@@ -30,6 +30,7 @@ fn obey(book: &mut Book, said: Result<Option<Command>, NotACall>) -> Reply
     match said {
         Err(fault) => Reply::Misread(fault),
         Ok(None) => Reply::Passed,
+        Ok(Some(Command::Weights(point, constraint))) => Reply::Weighed(point, constraint),
         Ok(Some(Command::Show)) => Reply::Shown,
         Ok(Some(Command::Help)) => Reply::Helped,
         Ok(Some(Command::Call(call))) => {

@@ -1,26 +1,29 @@
 -- The number of a refusal tells which it is.
 use mathlib.Core.Path.{_≡_, refl, sym, ap, _∙_}
-use Prim.Native.Nat.{ℕ, zero, suc}
+use Prim.Native.Nat.{ℕ}
+use mathlib.Core.Bool.{cond}
+use lib.Dec.{eqb}
 use Rattle.refusals.specs.Numbers.{number}
 use Rattle.refusals.specs.declared.Refusal.{Refusal}
-use Rattle.refusals.specs.declared.Refusal.the-variants.{BusOutside, HubBusOutside, ZoneOutside, HubBusFull, LoadOutside, ConstraintOutside, ShadowPriceOutside, NotPosted, LambdaOutside, RunOutside, SecondsOutside, AdderOutside, NotEntered}
+use Rattle.refusals.specs.declared.Refusal.the-variants.{BusOutside, HubBusOutside, ZoneOutside, HubBusFull, LoadOutside, ConstraintOutside, ShadowPriceOutside, NotPosted, LambdaOutside, RunOutside, SecondsOutside, AdderOutside, NotEntered, PointOutside}
 
 -- the refusal of each number; the last one for any that is no refusal's
 named : ℕ → Refusal
-named zero = NotEntered
-named (suc zero) = BusOutside
-named (suc (suc zero)) = HubBusOutside
-named (suc (suc (suc zero))) = ZoneOutside
-named (suc (suc (suc (suc zero)))) = HubBusFull
-named (suc (suc (suc (suc (suc zero))))) = LoadOutside
-named (suc (suc (suc (suc (suc (suc zero)))))) = ConstraintOutside
-named (suc (suc (suc (suc (suc (suc (suc zero))))))) = ShadowPriceOutside
-named (suc (suc (suc (suc (suc (suc (suc (suc zero)))))))) = NotPosted
-named (suc (suc (suc (suc (suc (suc (suc (suc (suc zero))))))))) = LambdaOutside
-named (suc (suc (suc (suc (suc (suc (suc (suc (suc (suc zero)))))))))) = RunOutside
-named (suc (suc (suc (suc (suc (suc (suc (suc (suc (suc (suc zero))))))))))) = SecondsOutside
-named (suc (suc (suc (suc (suc (suc (suc (suc (suc (suc (suc (suc zero)))))))))))) = AdderOutside
-named (suc (suc (suc (suc (suc (suc (suc (suc (suc (suc (suc (suc (suc n))))))))))))) = NotEntered
+named n =
+    cond (eqb n 1) BusOutside (
+    cond (eqb n 2) HubBusOutside (
+    cond (eqb n 3) ZoneOutside (
+    cond (eqb n 4) HubBusFull (
+    cond (eqb n 5) LoadOutside (
+    cond (eqb n 6) ConstraintOutside (
+    cond (eqb n 7) ShadowPriceOutside (
+    cond (eqb n 8) NotPosted (
+    cond (eqb n 9) LambdaOutside (
+    cond (eqb n 10) RunOutside (
+    cond (eqb n 11) SecondsOutside (
+    cond (eqb n 12) AdderOutside (
+    cond (eqb n 13) NotEntered (
+    PointOutside)))))))))))))
 
 named-number : (e : Refusal) → named (number e) ≡ e
 unfolding named
@@ -37,6 +40,7 @@ named-number RunOutside = refl
 named-number SecondsOutside = refl
 named-number AdderOutside = refl
 named-number NotEntered = refl
+named-number PointOutside = refl
 
 pub number-tells : (d e : Refusal) → number d ≡ number e → d ≡ e
 number-tells d e same = sym (named-number d) ∙ ap named same ∙ named-number e

@@ -19,6 +19,7 @@ pub enum Refusal {
     SecondsOutside,
     AdderOutside,
     NotEntered,
+    PointOutside,
 }
 
 impl Refusal {
@@ -47,6 +48,7 @@ impl Refusal {
             Refusal::SecondsOutside => 11,
             Refusal::AdderOutside => 12,
             Refusal::NotEntered => 13,
+            Refusal::PointOutside => 22,
         }
     }
 
@@ -68,6 +70,7 @@ impl Refusal {
             Refusal::SecondsOutside => "seconds are below 1, or all runs together above 900",
             Refusal::AdderOutside => "adder is not within 1000000 cents of 0",
             Refusal::NotEntered => "run is not entered",
+            Refusal::PointOutside => "hub is not 1 to 6, zone not 1 to 16, or tie bus not 0 to 255",
         }
     }
 }

@@ -10,13 +10,13 @@ use Rattle.std.specs.declared.result.Result.{Result}
 use Rattle.std.specs.declared.result.Result.the-variants.{Ok, Err}
 use Rattle.hour.specs.declared.calls.Call.the-variants as call
 use Rattle.script.specs.declared.commands.Command.{Command}
-use Rattle.script.specs.declared.commands.Command.the-variants.{Call, Show, Help}
+use Rattle.script.specs.declared.commands.Command.the-variants.{Call, Weights, Show, Help}
 use Rattle.script.specs.declared.commands.NotACall.{NotACall}
 use Rattle.script.specs.declared.commands.NotACall.the-variants.{Unknown, Usage}
 use Rattle.script.specs.declared.verbs.Verb.{Verb}
 use Rattle.script.specs.declared.verbs.Verb.the-variants as verb
 use Rattle.script.specs.Numbers.{numberOf}
-use Rattle.script.specs.Readings.{first, others, marketOf, choiceOf, end}
+use Rattle.script.specs.Readings.{first, last, others, marketOf, kindOf, choiceOf, end}
 use Rattle.script.specs.Verbs.{verbOf}
 
 abbrev pub chain : {X : Type 0} → Option X → (X → Option Command) → Option Command
@@ -26,6 +26,10 @@ chain (Some x) k = k x
 -- the first word, as `read` takes it, and then the words after it
 abbrev pub word : {X : Type 0} → (List ℕ → Option X) → (X → List (List ℕ) → Option Command) → List (List ℕ) → Option Command
 word read k ws = chain (first read ws) (λ x. k x (others ws))
+
+-- the last word, as `read` takes it, or none
+abbrev pub lastly : {X : Type 0} → (List ℕ → Option X) → (Option X → Command) → List (List ℕ) → Option Command
+lastly read k ws = chain (last read ws) (λ x. Some (k x))
 
 -- the command of a verb and the words after it, where they fit
 abbrev pub arguments : Verb → List (List ℕ) → Option Command
@@ -38,6 +42,7 @@ arguments verb.Strike = word numberOf (λ constraint. end (Call (call.Strike con
 arguments verb.Outage = word numberOf (λ constraint. word numberOf (λ bus. word (choiceOf (codes "on") (codes "off")) (λ out. end (Call (call.Outage constraint bus out)))))
 arguments verb.Run = word numberOf (λ run. word numberOf (λ seconds. word numberOf (λ reserve. word numberOf (λ reliability. end (Call (call.EnterRun run seconds reserve reliability))))))
 arguments verb.Drop = word numberOf (λ run. end (Call (call.DropRun run)))
+arguments verb.Weights = word kindOf (λ kind. word numberOf (λ number. lastly numberOf (λ constraint. Weights (record { kind = kind; number = number }) constraint)))
 arguments verb.Show = end Show
 arguments verb.Help = end Help
 

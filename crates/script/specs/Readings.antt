@@ -9,6 +9,8 @@ use Rattle.std.specs.declared.option.Option.{Option}
 use Rattle.std.specs.declared.option.Option.the-variants.{Some, None}
 use Rattle.hour.specs.declared.records.Market.{Market}
 use Rattle.hour.specs.declared.records.Market.the-variants.{DayAhead, RealTime}
+use Rattle.weighting.specs.declared.points.Kind.{Kind}
+use Rattle.weighting.specs.declared.points.Kind.the-variants.{Hub, Zone, Tie}
 use Rattle.script.specs.declared.words.Words.{Words}
 use Rattle.script.specs.Words.{words}
 
@@ -28,6 +30,19 @@ others (w ∷ ws) = ws
 
 abbrev pub marketOf : List ℕ → Option Market
 marketOf w = cond (sameBytes w (codes "day-ahead")) (Some DayAhead) (cond (sameBytes w (codes "real-time")) (Some RealTime) None)
+
+abbrev pub kindOf : List ℕ → Option Kind
+kindOf w = cond (sameBytes w (codes "hub")) (Some Hub) (cond (sameBytes w (codes "zone")) (Some Zone) (cond (sameBytes w (codes "tie")) (Some Tie) None))
+
+abbrev pub some : {X : Type 0} → Option X → Option (Option X)
+some None = None
+some (Some x) = Some (Some x)
+
+-- the only word left, as `read` takes it; nothing where no word is left
+abbrev pub last : {X : Type 0} → (List ℕ → Option X) → List (List ℕ) → Option (Option X)
+last read [] = Some None
+last read (w ∷ []) = some (read w)
+last read (w ∷ v ∷ vs) = None
 
 -- true at one word, false at another
 abbrev pub choiceOf : List ℕ → List ℕ → List ℕ → Option Bool

@@ -7,10 +7,10 @@ use Rattle.std.specs.shelf.Text.{sameBytes}
 use Rattle.std.specs.declared.option.Option.{Option}
 use Rattle.std.specs.declared.option.Option.the-variants.{Some, None}
 use Rattle.script.specs.declared.verbs.Verb.{Verb}
-use Rattle.script.specs.declared.verbs.Verb.the-variants.{Place, Status, Load, Lambda, Post, Strike, Outage, Run, Drop, Show, Help}
+use Rattle.script.specs.declared.verbs.Verb.the-variants.{Place, Status, Load, Lambda, Post, Strike, Outage, Run, Drop, Weights, Show, Help}
 
 abbrev pub allVerbs : List Verb
-allVerbs = Place ∷ Status ∷ Load ∷ Lambda ∷ Post ∷ Strike ∷ Outage ∷ Run ∷ Drop ∷ Show ∷ Help ∷ []
+allVerbs = Place ∷ Status ∷ Load ∷ Lambda ∷ Post ∷ Strike ∷ Outage ∷ Run ∷ Drop ∷ Weights ∷ Show ∷ Help ∷ []
 
 abbrev pub verbOf : List ℕ → Option Verb
 verbOf w =
@@ -23,8 +23,9 @@ verbOf w =
     cond (sameBytes w (codes "outage")) (Some Outage) (
     cond (sameBytes w (codes "run")) (Some Run) (
     cond (sameBytes w (codes "drop")) (Some Drop) (
+    cond (sameBytes w (codes "weights")) (Some Weights) (
     cond (sameBytes w (codes "show")) (Some Show) (
-    cond (sameBytes w (codes "help")) (Some Help) None))))))))))
+    cond (sameBytes w (codes "help")) (Some Help) None)))))))))))
 
 abbrev pub usage : Verb → List ℕ
 usage Place = codes "place BUS HUB_BUS ZONE"
@@ -36,5 +37,6 @@ usage Strike = codes "strike CONSTRAINT"
 usage Outage = codes "outage CONSTRAINT BUS on|off"
 usage Run = codes "run RUN SECONDS RESERVE_ADDER RELIABILITY_ADDER"
 usage Drop = codes "drop RUN"
+usage Weights = codes "weights hub|zone|tie NUMBER [CONSTRAINT]"
 usage Show = codes "show"
 usage Help = codes "help"

@@ -9,10 +9,13 @@ ghost use Rattle.std.specs.declared.result.Result.the-variants.{Ok};
 use crate::verbs::Verb;
 use crate::words::Words;
 use hour::calls::Call;
+use weighting::points::Point;
 
 #[derive(Clone, Copy)]
 pub enum Command {
     Call(Call),
+    // What a point's buses weigh, in the base case or under a constraint.
+    Weights(Point, Option<i64>),
     Show,
     Help,
 }
@@ -113,6 +116,15 @@ fn drop_run(mut args: Words<'_>) -> Option<Command>
     args.end(Command::Call(Call::DropRun { run }))
 }
 
+fn weights(mut args: Words<'_>) -> Option<Command>
+    ensures value { λ r. ⌜ r ≡ arguments Verb.Weights (left (args .entry)) ⌝ }
+{
+    let kind = args.kind()?;
+    let number = args.number()?;
+    let constraint = args.last_number()?;
+    Some(Command::Weights(Point { kind, number }, constraint))
+}
+
 // The command of a verb and the words after it, where they fit.
 fn arguments(verb: Verb, args: Words<'_>) -> Option<Command>
     ensures value { λ r. ⌜ r ≡ arguments verb (left (args .entry)) ⌝ }
@@ -127,6 +139,7 @@ fn arguments(verb: Verb, args: Words<'_>) -> Option<Command>
         Verb::Outage => outage(args),
         Verb::Run => enter_run(args),
         Verb::Drop => drop_run(args),
+        Verb::Weights => weights(args),
         Verb::Show => args.end(Command::Show),
         Verb::Help => args.end(Command::Help),
     }

@@ -16,13 +16,14 @@ pub enum Verb {
     Outage,
     Run,
     Drop,
+    Weights,
     Show,
     Help,
 }
 
 impl Verb {
     // All verbs, in the order in which a person is told of them.
-    pub fn all() -> [Verb; 11]
+    pub fn all() -> [Verb; 12]
         ensures value { λ r. ⌜ r ≡ allVerbs ⌝ }
         ensures every { λ r. ⌜ ((v : Verb) → (i : ℕ) × (getD r i Verb.Help ≡ v)) ⌝ }
     {
@@ -36,6 +37,7 @@ impl Verb {
             Verb::Outage,
             Verb::Run,
             Verb::Drop,
+            Verb::Weights,
             Verb::Show,
             Verb::Help,
         ]
@@ -55,6 +57,7 @@ impl Verb {
             "outage" => Some(Verb::Outage),
             "run" => Some(Verb::Run),
             "drop" => Some(Verb::Drop),
+            "weights" => Some(Verb::Weights),
             "show" => Some(Verb::Show),
             "help" => Some(Verb::Help),
             _ => None,
@@ -75,6 +78,7 @@ impl Verb {
             Verb::Outage => "outage CONSTRAINT BUS on|off",
             Verb::Run => "run RUN SECONDS RESERVE_ADDER RELIABILITY_ADDER",
             Verb::Drop => "drop RUN",
+            Verb::Weights => "weights hub|zone|tie NUMBER [CONSTRAINT]",
             Verb::Show => "show",
             Verb::Help => "help",
         }

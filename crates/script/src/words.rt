@@ -2,10 +2,11 @@
 ghost use mathlib.Core.Path.{_≡_};
 ghost use mathlib.Core.List.{[], _∷_};
 ghost use Rattle.script.specs.Numbers.{numberOf};
-ghost use Rattle.script.specs.Readings.{left, first, others, marketOf, choiceOf, end};
+ghost use Rattle.script.specs.Readings.{left, first, last, others, marketOf, kindOf, choiceOf, end};
 ghost use Rattle.script.specs.Words.{words};
 ghost use Rattle.std.specs.Options.{Cases};
 use hour::records::Market;
+use weighting::points::Kind;
 
 // The first word of a line, and what follows it.
 fn cut(line: &str) -> Option<(&str, &str)>
@@ -23,6 +24,13 @@ fn cut(line: &str) -> Option<(&str, &str)>
     } else {
         Some((rest, ""))
     }
+}
+
+// A word as a number.
+fn number_of(word: &str) -> Option<i64>
+    ensures value { λ r. ⌜ r ≡ numberOf (now (word .entry)) ⌝ }
+{
+    word.parse::<i64>().ok()
 }
 
 // What is left of a line.
@@ -54,7 +62,7 @@ impl<'a> Words<'a> {
         ensures after { λ _. ⌜ left (now (self .exit)) ≡ others (left (now (self .entry))) ⌝ }
     {
         let word = self.next()?;
-        word.parse::<i64>().ok()
+        number_of(word)
     }
 
     // The next word as a market.
@@ -65,6 +73,19 @@ impl<'a> Words<'a> {
         match self.next()? {
             "day-ahead" => Some(Market::DayAhead),
             "real-time" => Some(Market::RealTime),
+            _ => None,
+        }
+    }
+
+    // The next word as a kind of point.
+    pub fn kind(&mut self) -> Option<Kind>
+        ensures value { λ r. ⌜ r ≡ first kindOf (left (now (self .entry))) ⌝ }
+        ensures after { λ _. ⌜ left (now (self .exit)) ≡ others (left (now (self .entry))) ⌝ }
+    {
+        match self.next()? {
+            "hub" => Some(Kind::Hub),
+            "zone" => Some(Kind::Zone),
+            "tie" => Some(Kind::Tie),
             _ => None,
         }
     }
@@ -82,6 +103,20 @@ impl<'a> Words<'a> {
         } else {
             None
         }
+    }
+
+    // The last word as a number, where one is left.
+    pub fn last_number(mut self) -> Option<Option<i64>>
+        ensures value { λ r. ⌜ r ≡ last numberOf (left (self .entry)) ⌝ }
+    {
+        let Some(word) = self.next() else {
+            return Some(None);
+        };
+        if self.next().is_some() {
+            return None;
+        }
+        let number = number_of(word)?;
+        Some(Some(number))
     }
 
     // The value, where no word is left.

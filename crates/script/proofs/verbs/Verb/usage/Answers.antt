@@ -18,3 +18,6 @@ returns-in-Post c = record { value = cc }
 
 pub returns-in-Run : need.returns-in-Run
 returns-in-Run c = record { value = cc }
+
+pub returns-in-Weights : need.returns-in-Weights
+returns-in-Weights c = record { value = cc }

@@ -1,6 +1,0 @@
-use borrow.Author.Needs.{needs}
-use Rattle.script.proofs.Integers.{parsed}
-use Rattle.script.proofs.words.Words.number.Needs as need
-
-pub returns : need.returns
-returns c = let p = parsed (c .in-Continue-word .word .now) (c .parse .result) (c .parse .ensures .reads .0) in search needs

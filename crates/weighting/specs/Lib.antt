@@ -1,0 +1,15 @@
+pub mod Sums
+pub mod BookLimits
+pub mod Views
+pub mod Meanings
+pub mod SumLaws
+pub mod Points
+pub mod Owns
+pub mod Zones
+pub mod Ties
+pub mod Hubs
+pub mod HubLaws
+pub mod Marks
+pub mod Members
+pub mod Shares
+pub mod Weighed
