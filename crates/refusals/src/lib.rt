@@ -19,6 +19,9 @@ pub enum Refusal {
     SecondsOutside,
     AdderOutside,
     NotEntered,
+    NoLambda,
+    SecondsShort,
+    NoWeight,
     PointOutside,
 }
 
@@ -48,6 +51,9 @@ impl Refusal {
             Refusal::SecondsOutside => 11,
             Refusal::AdderOutside => 12,
             Refusal::NotEntered => 13,
+            Refusal::NoLambda => 19,
+            Refusal::SecondsShort => 20,
+            Refusal::NoWeight => 21,
             Refusal::PointOutside => 22,
         }
     }
@@ -70,6 +76,9 @@ impl Refusal {
             Refusal::SecondsOutside => "seconds are below 1, or all runs together above 900",
             Refusal::AdderOutside => "adder is not within 1000000 cents of 0",
             Refusal::NotEntered => "run is not entered",
+            Refusal::NoLambda => "lambda is not set",
+            Refusal::SecondsShort => "seconds are not 900 in all",
+            Refusal::NoWeight => "no live bus has weight",
             Refusal::PointOutside => "hub is not 1 to 6, zone not 1 to 16, or tie bus not 0 to 255",
         }
     }

@@ -1,4 +1,4 @@
--- The two texts that `search` does not compare by itself.
+-- The texts that `search` does not compare by itself.
 use mathlib.Core.Path.{sym, ap}
 use Rattle.refusals.specs.Words.{meaning}
 use Rattle.refusals.proofs.Refusal.meaning.Needs as need

@@ -1,0 +1,5 @@
+pub mod Sums
+pub mod Prices
+pub mod Facts
+pub mod Exact
+pub mod Moves

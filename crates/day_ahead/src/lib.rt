@@ -1,0 +1,3 @@
+// Day-ahead prices, for every weighting and every posting.
+mod contributions;
+pub mod prices;

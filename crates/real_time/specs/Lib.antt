@@ -1,0 +1,5 @@
+pub mod Sums
+pub mod Bounds
+pub mod Weights
+pub mod Prices
+pub mod Laws

@@ -1,0 +1,2 @@
+// Real-time prices of any weighting over any posting.
+pub mod prices;
