@@ -63,6 +63,11 @@ def read(path):
         return f.read()
 
 
+def inner(path, indent, word):
+    """Whether a word of a module's block is defined by clauses at the same place."""
+    return re.search(r"(?m)^" + indent + re.escape(word) + r"(?=\s)[^\n]*=", read(path)) is not None
+
+
 def collect(own):
     """Declared words, declared record fields, words that other libraries gave, and words that the checker makes."""
     declared, fields, foreign, made = {}, set(), set(), set()
@@ -92,7 +97,7 @@ def collect(own):
                 continue
             if re.match(r"\s*goal\.", m.group(5)) or "goal." in m.group(5) and m.group(3) in m.group(5):
                 made.add(m.group(3))
-            elif m.group(1) == "":
+            elif m.group(1) == "" or not record and inner(path, m.group(1), m.group(3)):
                 declared.setdefault(m.group(3), set()).add(path)
             elif record and "pub" in m.group(2):
                 declared.setdefault(m.group(3), set()).add(path)
@@ -103,6 +108,8 @@ def collect(own):
 def plan(declared, fields, foreign, made):
     names = {}
     for word in declared:
+        if word in OWN and OWN[word] in declared:  # a second run
+            continue
         if not word[0].islower() or word in made or snake(word) == word:
             continue
         names[word] = snake(word)

@@ -5,7 +5,7 @@ use Rattle.std.proofs.lemmas.Nat.{mul-le}
 use Rattle.numbers.specs.Rounding.{half_up}
 use Rattle.posting.specs.Grids.{Within}
 use Rattle.weighting.specs.Sums.{sum_below}
-use Rattle.numbers.specs.Sums.{sum_z}
+use Rattle.day_ahead.specs.Sums.{sum_z}
 use Rattle.numbers.proofs.Halves.{half_up_nearest}
 
 pub within_zero : (h : ℕ) → Within h (pos 0)

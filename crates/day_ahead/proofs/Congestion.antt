@@ -12,17 +12,17 @@ use Rattle.weighting.specs.Views.{View, Alike, view_of}
 use Rattle.weighting.specs.Meanings.{Meaning}
 use Rattle.day_ahead.specs.Prices.{case_under, shadow_price, weighted_factors, congestion, contribution_at, contribution}
 use Rattle.day_ahead.proofs.Bounds.{within_more, half_up_within}
-use Rattle.day_ahead.proofs.Living.{congestion-alike}
+use Rattle.day_ahead.proofs.Living.{congestion_alike}
 
 module _ (m : Meaning) (factors : Grid) where
-  pub congestion-is : (v : View) (k : ℕ) (price : ℤ) {t : ℕ} {n x r : ℤ} → t ≡ m.total v → (t ≡ 0 → ⊥) → n ≡ weighted_factors m factors v k → x ≡ n *ℤ price → r ≡ half_up x t →
+  pub congestion_is : (v : View) (k : ℕ) (price : ℤ) {t : ℕ} {n x r : ℤ} → t ≡ m.total v → (t ≡ 0 → ⊥) → n ≡ weighted_factors m factors v k → x ≡ n *ℤ price → r ≡ half_up x t →
       r ≡ congestion m factors v k price
-  congestion-is v k price {t} {n} {x} {r} total some sum product round =
+  congestion_is v k price {t} {n} {x} {r} total some sum product round =
       round ∙ ap (λ (y : ℤ). half_up y t) (product ∙ ap (λ (y : ℤ). y *ℤ price) sum) ∙ ap (half_up (weighted_factors m factors v k *ℤ price)) total
       ∙ sym (cond-false (eqb (m.total v) 0) (pos 0) (half_up (weighted_factors m factors v k *ℤ price) (m.total v)) (ne_eqb (m.total v) 0 (λ e. some (total ∙ e))))
 
-  pub round-within : (v : View) {t : ℕ} {x r : ℤ} → t ≡ m.total v → (t ≡ 0 → ⊥) → Within 5120000000000000000 x → r ≡ half_up x t → Within 6000000000000000000 r
-  round-within v {t} {x} {r} total some w round =
+  pub round_within : (v : View) {t : ℕ} {x r : ℤ} → t ≡ m.total v → (t ≡ 0 → ⊥) → Within 5120000000000000000 x → r ≡ half_up x t → Within 6000000000000000000 r
+  round_within v {t} {x} {r} total some w round =
       subst (Within 6000000000000000000) (sym round)
       (within_more (5120000000000000000 + t) 6000000000000000000 (half_up x t) (omega (arith, total, m.total_is_bounded v))
       (half_up_within 5120000000000000000 t x (omega (arith, some)) w))
@@ -40,5 +40,5 @@ module _ (m : Meaning) (factors : Grid) where
         record { live = lived; hub_bus = λ b l _. refl; zone = λ b l _. refl; load = λ b l _. refl }
         in
         round ∙ ap (congestion m factors (view_of book DayAhead (member live)) k) same
-        ∙ congestion-alike m factors factors (view_of book DayAhead (member live)) (case_under book k) k price like (λ b l _. refl)
+        ∙ congestion_alike m factors factors (view_of book DayAhead (member live)) (case_under book k) k price like (λ b l _. refl)
         ∙ ap (contribution_at m factors (case_under book k) k) (sym some)

@@ -8,18 +8,18 @@ use Rattle.weighting.specs.Sums.{sum_below}
 use Rattle.weighting.specs.SumLaws.{sum_more, sum_part}
 use Rattle.weighting.specs.Views.{View}
 use Rattle.weighting.specs.Meanings.{Meaning}
-use Rattle.numbers.specs.Sums.{sum_z}
+use Rattle.day_ahead.specs.Sums.{sum_z}
 use Rattle.day_ahead.proofs.Bounds.{within_more, within_mul, within_pos, within_sum}
 
 module _ (m : Meaning) (v : View) where
   sums : sum_below (m.weight v) 256 ≤ 2560000
   sums = omega (arith, m.total_is_the_sum v, m.total_is_bounded v)
 
-  pub weight-most : (b : ℕ) → b < 256 → m.weight v b ≤ 2560000
-  weight-most b h = omega (arith, sums, sum_more (m.weight v) b, sum_part (m.weight v) (b + 1) 256 (omega arith))
+  pub weight_most : (b : ℕ) → b < 256 → m.weight v b ≤ 2560000
+  weight_most b h = omega (arith, sums, sum_more (m.weight v) b, sum_part (m.weight v) (b + 1) 256 (omega arith))
 
-  pub factors-within : (g : Grid) (k n : ℕ) → n ≤ 256 → Within 5120000000000 (sum_z (λ b. pos (m.weight v b) *ℤ g.at b k) n)
-  factors-within g k n h =
+  pub factors_within : (g : Grid) (k n : ℕ) → n ≤ 256 → Within 5120000000000 (sum_z (λ b. pos (m.weight v b) *ℤ g.at b k) n)
+  factors_within g k n h =
       within_more (sum_below (m.weight v) n * 2000000) 5120000000000 (sum_z (λ b. pos (m.weight v b) *ℤ g.at b k) n)
       (omega (arith, sums, sum_part (m.weight v) n 256 h)) (within_sum (m.weight v) (λ b. g.at b k) 2000000 n (λ b. g.within b k))
 

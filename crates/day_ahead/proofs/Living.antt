@@ -11,15 +11,15 @@ use Rattle.posting.specs.Grids.{Grid}
 use Rattle.weighting.specs.Views.{View, Alike}
 use Rattle.weighting.specs.Meanings.{Meaning}
 use Rattle.weighting.proofs.Weighed.{total_alike}
-use Rattle.numbers.specs.Sums.{sum_z}
+use Rattle.day_ahead.specs.Sums.{sum_z}
 use Rattle.day_ahead.specs.Prices.{base_case, case_under, shadow_price, weighted_factors, congestion, contribution_at, contribution, price_over, price_at, day_ahead_price}
 use Rattle.day_ahead.specs.Facts.{Posted, LiveFacts}
-use Rattle.numbers.proofs.Sums.{sum_z_same}
+use Rattle.day_ahead.proofs.Sums.{sum_z_same}
 
 module _ (m : Meaning) where
   -- a factor counts only where there is weight
-  factors-alike : (p q : Grid) (v u : View) (k : ℕ) → Alike v u → ((b : ℕ) → b < 256 → 0 < m.weight v b → p.at b k ≡ q.at b k) → weighted_factors m p v k ≡ weighted_factors m q u k
-  factors-alike p q v u k like same =
+  factors_alike : (p q : Grid) (v u : View) (k : ℕ) → Alike v u → ((b : ℕ) → b < 256 → 0 < m.weight v b → p.at b k ≡ q.at b k) → weighted_factors m p v k ≡ weighted_factors m q u k
+  factors_alike p q v u k like same =
       sum_z_same (λ b. pos (m.weight v b) *ℤ p.at b k) (λ b. pos (m.weight u b) *ℤ q.at b k) 256 (λ b h.
       let weights = m.alike_weigh_the_same v u like b h in
       ⊎_elim
@@ -27,20 +27,20 @@ module _ (m : Meaning) where
       (λ (z : m.weight v b ≡ 0 → ⊥). ap (λ (x : ℤ). pos (m.weight v b) *ℤ x) (same b h (omega arith)) ∙ ap (λ (n : ℕ). pos n *ℤ q.at b k) weights)
       (cases_eq (m.weight v b) 0))
 
-  pub congestion-alike : (p q : Grid) (v u : View) (k : ℕ) (price : ℤ) → Alike v u → ((b : ℕ) → b < 256 → 0 < m.weight v b → p.at b k ≡ q.at b k) →
+  pub congestion_alike : (p q : Grid) (v u : View) (k : ℕ) (price : ℤ) → Alike v u → ((b : ℕ) → b < 256 → 0 < m.weight v b → p.at b k ≡ q.at b k) →
       congestion m p v k price ≡ congestion m q u k price
-  congestion-alike p q v u k price like same =
+  congestion_alike p q v u k price like same =
       ap (λ (t : ℕ). cond (eqb t 0) (pos 0) (half_up (weighted_factors m p v k *ℤ price) t)) (total_alike m v u like)
-      ∙ ap (λ (n : ℤ). cond (eqb (m.total u) 0) (pos 0) (half_up (n *ℤ price) (m.total u))) (factors-alike p q v u k like same)
+      ∙ ap (λ (n : ℤ). cond (eqb (m.total u) 0) (pos 0) (half_up (n *ℤ price) (m.total u))) (factors_alike p q v u k like same)
 
-  pub at-alike : (p q : Grid) (v u : View) (k : ℕ) (o : Option ℤ) → ((s : ℤ) × (o ≡ Some s) → Alike v u) → ((s : ℤ) × (o ≡ Some s) → (b : ℕ) → b < 256 → 0 < m.weight v b → p.at b k ≡ q.at b k) →
+  pub at_alike : (p q : Grid) (v u : View) (k : ℕ) (o : Option ℤ) → ((s : ℤ) × (o ≡ Some s) → Alike v u) → ((s : ℤ) × (o ≡ Some s) → (b : ℕ) → b < 256 → 0 < m.weight v b → p.at b k ≡ q.at b k) →
       contribution_at m p v k o ≡ contribution_at m q u k o
-  at-alike p q v u k None like same = refl
-  at-alike p q v u k (Some s) like same = congestion-alike p q v u k s (like (s, refl)) (same (s, refl))
+  at_alike p q v u k None like same = refl
+  at_alike p q v u k (Some s) like same = congestion_alike p q v u k s (like (s, refl)) (same (s, refl))
 
   module _ (p q : Grid) (book other : Book) (facts : LiveFacts m p q book other) where
-    pub base-alike : Alike (base_case book) (base_case other)
-    base-alike = record { live = facts.live_buses; hub_bus = facts.hub_buses; zone = facts.zones; load = facts.loads }
+    pub base_alike : Alike (base_case book) (base_case other)
+    base_alike = record { live = facts.live_buses; hub_bus = facts.hub_buses; zone = facts.zones; load = facts.loads }
 
     under_alike : (k : ℕ) → k < 32 → Posted book k → Alike (case_under book k) (case_under other k)
     under_alike k l posted =
@@ -57,10 +57,10 @@ module _ (m : Meaning) where
           load = λ b h t. facts.loads b h (live b t);
         }
 
-    contribution-alike : (k : ℕ) → k < 32 → contribution m p book k ≡ contribution m q other k
+    contribution_alike : (k : ℕ) → k < 32 → contribution m p book k ≡ contribution m q other k
     unfolding contribution
-    contribution-alike k l =
-        at-alike p q (case_under book k) (case_under other k) k (shadow_price book k) (under_alike k l) (facts.factors_with_weight k l)
+    contribution_alike k l =
+        at_alike p q (case_under book k) (case_under other k) k (shadow_price book k) (under_alike k l) (facts.factors_with_weight k l)
         ∙ ap (contribution_at m q (case_under other k) k) (facts.shadow_prices k l)
 
     pub decided : day_ahead_price m p book ≡ day_ahead_price m q other
@@ -69,5 +69,5 @@ module _ (m : Meaning) where
         by : (o : Option ℤ) → price_at m p book o ≡ price_at m q other o
         by None = refl
         by (Some l) =
-            ap (λ (t : ℕ). price_over t l (sum_z (contribution m p book) 32)) (total_alike m (base_case book) (base_case other) base-alike)
-            ∙ ap (price_over (m.total (base_case other)) l) (sum_z_same (contribution m p book) (contribution m q other) 32 contribution-alike)
+            ap (λ (t : ℕ). price_over t l (sum_z (contribution m p book) 32)) (total_alike m (base_case book) (base_case other) base_alike)
+            ∙ ap (price_over (m.total (base_case other)) l) (sum_z_same (contribution m p book) (contribution m q other) 32 contribution_alike)

@@ -13,7 +13,7 @@ use Rattle.weighting.specs.Views.{View}
 use Rattle.weighting.specs.Meanings.{Meaning}
 use Rattle.refusals.specs.declared.Refusal.{Refusal}
 use Rattle.refusals.specs.declared.Refusal.TheVariants.{NoWeight}
-use Rattle.numbers.specs.Sums.{sum_z}
+use Rattle.day_ahead.specs.Sums.{sum_z}
 use Rattle.day_ahead.specs.Prices.{base_case, case_under, shadow_price, weighted_factors, contribution_at, contribution, in_cents, price_at, day_ahead_price}
 use Rattle.day_ahead.specs.Exact.{Fraction, plus, with_term, exactly, deviation, NearPrice, NearExact}
 use Rattle.day_ahead.proofs.Bounds.{within_more, within_add, within_sub, within_mul, within_pos}
@@ -64,9 +64,9 @@ near_plus n s x a d l w =
     }
 
 module _ (m : Meaning) (p : Grid) where
-  near-term : (n : ℕ) (s : ℤ) (a : Fraction) (v : View) (k : ℕ) (o : Option ℤ) → Near n s a → Near (suc n) (s +ℤ contribution_at m p v k o) (with_term m p a v k o)
-  near-term n s a v k None w = subst (λ (x : ℤ). Near (suc n) x a) (sym (+ℤ_idr s)) (near_more n s a w)
-  near-term n s a v k (Some price) w =
+  near_term : (n : ℕ) (s : ℤ) (a : Fraction) (v : View) (k : ℕ) (o : Option ℤ) → Near n s a → Near (suc n) (s +ℤ contribution_at m p v k o) (with_term m p a v k o)
+  near_term n s a v k None w = subst (λ (x : ℤ). Near (suc n) x a) (sym (+ℤ_idr s)) (near_more n s a w)
+  near_term n s a v k (Some price) w =
       let x = weighted_factors m p v k *ℤ price in
       ⊎_elim
       (λ (z : m.total v ≡ 0).
@@ -77,10 +77,10 @@ module _ (m : Meaning) (p : Grid) where
       (near_plus n s x a (m.total v) (omega arith) w))
       (cases_eq (m.total v) 0)
 
-  near-sum : (book : Book) (n : ℕ) → Near n (sum_z (contribution m p book) n) (exactly m p book n)
+  near_sum : (book : Book) (n : ℕ) → Near n (sum_z (contribution m p book) n) (exactly m p book n)
   unfolding sum_z exactly contribution
-  near-sum book zero = record { above = omega arith; close = record { low = omega (arith, ints); high = omega (arith, ints) } }
-  near-sum book (suc n) = near-term n (sum_z (contribution m p book) n) (exactly m p book n) (case_under book n) n (shadow_price book n) (near-sum book n)
+  near_sum book zero = record { above = omega arith; close = record { low = omega (arith, ints); high = omega (arith, ints) } }
+  near_sum book (suc n) = near_term n (sum_z (contribution m p book) n) (exactly m p book n) (case_under book n) n (shadow_price book n) (near_sum book n)
 
 -- the price that an accepted answer holds
 abbrev refused : Result ℤ Refusal
@@ -122,4 +122,4 @@ pub near_exact : (m : Meaning) (p : Grid) (book : Book) (r : Result ℤ Refusal)
 near_exact m p book r is l v set got =
     near_price l (sum_z (contribution m p book) 32) v (exactly m p book 32)
     (sym (answer_is (eqb (m.total (base_case book)) 0) (in_cents l (sum_z (contribution m p book) 32)) v (sym (ap (price_at m p book) set) ∙ sym is ∙ got)))
-    (near-sum m p book 32)
+    (near_sum m p book 32)

@@ -1,3 +1,4 @@
+pub mod Sums
 pub mod Prices
 pub mod Facts
 pub mod Exact

@@ -11,7 +11,7 @@ use Rattle.weighting.specs.Views.{View, view_of}
 use Rattle.weighting.specs.Meanings.{Meaning}
 use Rattle.refusals.specs.declared.Refusal.{Refusal}
 use Rattle.refusals.specs.declared.Refusal.TheVariants.{NoLambda, NoWeight}
-use Rattle.numbers.specs.Sums.{sum_z}
+use Rattle.day_ahead.specs.Sums.{sum_z}
 
 -- fine units to the cent
 abbrev pub fine_units : ℕ

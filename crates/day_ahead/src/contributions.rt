@@ -6,7 +6,7 @@ ghost use Rattle.std.specs.Prelude.{◌≡◌, ◌<◌, pos, ◌-ℤ◌, ◌*ℤ
 ghost use Rattle.numbers.specs.Rounding.{half_up, Nearest};
 ghost use Rattle.posting.specs.Grids.{Within};
 ghost use Rattle.weighting.specs.Views.{view};
-ghost use Rattle.numbers.specs.Sums.{sum_z};
+ghost use Rattle.day_ahead.specs.Sums.{sum_z};
 ghost use Rattle.day_ahead.specs.Prices.{shadow_price, weighted_factors, congestion, contribution, in_cents};
 
 use hour::book::Book;

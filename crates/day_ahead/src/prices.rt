@@ -3,7 +3,7 @@ ghost use Rattle.std.specs.Prelude.{◌≡◌};
 ghost use Rattle.day_ahead.specs.Prices.{base_case, day_ahead_price};
 ghost use Rattle.day_ahead.specs.Facts.{LiveFactsDecide};
 ghost use Rattle.day_ahead.specs.Exact.{NearExact};
-ghost use Rattle.day_ahead.specs.Moves.{ReferenceStays};
+ghost use Rattle.day_ahead.specs.Moves.{ReferenceStays, PostedReferenceStays};
 
 use crate::contributions::{cents, contributions};
 use hour::book::Book;
@@ -23,6 +23,7 @@ pub fn day_ahead_price<W: Weighting, P: Posting>(
     ensures facts { LiveFactsDecide (W.Weighting.meaning weighting.now) (P.Posting.grid posting.now) book.now result }
     ensures near { NearExact (W.Weighting.meaning weighting.now) (P.Posting.grid posting.now) book.now result }
     ensures reference { ReferenceStays (W.Weighting.meaning weighting.now) (P.Posting.grid posting.now) book.now result }
+    ensures posted_reference { PostedReferenceStays (W.Weighting.meaning weighting.now) (P.Posting.grid posting.now) book.now result }
 {
     price(book, weighting, posting)
 }

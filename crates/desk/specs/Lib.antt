@@ -1,4 +1,3 @@
-pub mod Changes
 pub mod Factors
 pub mod FactorLaws
 pub mod PriceLaws
@@ -6,3 +5,4 @@ pub mod PriceTexts
 pub mod Prices
 pub mod Replies
 pub mod Sessions
+pub mod Weights

@@ -1,8 +1,9 @@
 // A session between standard input and standard output.
 use crate::replies::Reply;
-use crate::sessions::Desk;
+use crate::sessions::work;
 use crate::summaries::Summary;
 use crate::weights::Weighing;
+use hour::book::Book;
 use script::verbs::Verb;
 use std::io;
 use std::io::{BufRead, BufReader};
@@ -14,35 +15,35 @@ pub fn work_input(rt: &HostRuntime) -> io::Result<()> {
         print_help(rt)?;
     }
     let heap = rt.alloc();
-    let mut desk = Desk::open();
+    let mut book = Book::fresh();
     let mut number: u64 = 0;
     for line in BufReader::new(heap, rt.stdin())?.split(heap, b'\n') {
         number = number.saturating_add(1);
         let bytes = line?;
         let text = String::from_utf8_lossy(heap, bytes.as_slice())?;
-        print_reply(rt, &mut desk, number, text.as_str())?;
+        print_reply(rt, &mut book, number, text.as_str())?;
     }
     Ok(())
 }
 
-fn print_reply(rt: &HostRuntime, desk: &mut Desk, number: u64, line: &str) -> io::Result<()> {
-    let reply = desk.work(line);
+fn print_reply(rt: &HostRuntime, book: &mut Book, number: u64, line: &str) -> io::Result<()> {
+    let reply = work(book, line);
     match reply {
         Reply::Passed => Ok(()),
         Reply::Weighed(point, constraint) => {
             let weighing = Weighing {
-                book: desk.book(),
+                book,
                 point,
                 constraint,
             };
             print!(rt; "{weighing}")
         }
         Reply::Shown => {
-            let summary = Summary { book: desk.book() };
+            let summary = Summary { book };
             print!(rt; "{summary}")
         }
         Reply::Helped => print_help(rt),
-        Reply::Answered(_, _) | Reply::Factored(_, _) | Reply::Priced(_, _, _) => {
+        Reply::Answered(_, _) => {
             let text = reply.text(rt.alloc())?;
             println!(rt; "{text}")
         }

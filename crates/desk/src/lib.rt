@@ -1,8 +1,8 @@
 // A desk's session with one hour book: a line in, a reply out.
 pub mod console;
-mod factors;
-mod price_texts;
-mod prices;
+pub mod factors;
+pub mod price_texts;
+pub mod prices;
 pub mod replies;
 pub mod sessions;
 pub mod summaries;

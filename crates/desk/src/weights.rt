@@ -1,9 +1,11 @@
 // What a point's buses weigh, for a person.
+ghost use Rattle.std.specs.Prelude.{◌≡◌};
+ghost use Rattle.desk.specs.Weights.{kind_name};
+
 use hour::book::Book;
 use refusals::Refusal;
-use script::writing::kind_name;
 use std::fmt;
-use weighting::points::{Point, Weights, weigh};
+use weighting::points::{Kind, Point, Weights, weigh};
 
 // A question for weights, in the base case or under a constraint, and its answer from the book.
 #[derive(Drop)]
@@ -35,6 +37,16 @@ fn write_question<W: fmt::Write>(
         write!(f, " {k}")?;
     }
     Ok(())
+}
+
+fn kind_name(kind: Kind) -> &'static str
+    ensures { result.now ≡ kind_name kind }
+{
+    match kind {
+        Kind::Hub => "hub",
+        Kind::Zone => "zone",
+        Kind::Tie => "tie",
+    }
 }
 
 // A row for each bus that weighs something, and the total.

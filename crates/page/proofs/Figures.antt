@@ -30,8 +30,8 @@ module _ (places : List ℕ) (first left n : ℕ) (long : length places ≡ 20) 
   behind : (d : ℕ) → drop first (set places first d) ≡ d ∷ drop (first + 1) places
   behind d = drop-set places first d (omega arith)
 
-  pub another-place : 10 ≤ left → 1 ≤ first
-  another-place more =
+  pub another_place : 10 ≤ left → 1 ≤ first
+  another_place more =
       omega (
         arith,
         room,
@@ -40,17 +40,17 @@ module _ (places : List ℕ) (first left n : ℕ) (long : length places ≡ 20) 
         decimal_nonempty (left / 10) (omega (arith, div-le_self left 10)),
       )
 
-  pub another-digit : 10 ≤ left → decimal (left / 10) ++ drop (first - 1 + 1) (set places first (48 + left % 10)) ≡ decimal n
-  another-digit more =
-      let back : first - 1 + 1 ≡ first = omega (arith, another-place more) in
+  pub another_digit : 10 ≤ left → decimal (left / 10) ++ drop (first - 1 + 1) (set places first (48 + left % 10)) ≡ decimal n
+  another_digit more =
+      let back : first - 1 + 1 ≡ first = omega (arith, another_place more) in
       ap (λ (k : ℕ). decimal (left / 10) ++ drop k (set places first (48 + left % 10))) back
       ∙ ap (λ (t : List ℕ). decimal (left / 10) ++ t) (behind (48 + left % 10))
       ∙ sym (append_assoc (decimal (left / 10)) ((48 + left % 10) ∷ []) (drop (first + 1) places))
       ∙ ap (λ (t : List ℕ). t ++ drop (first + 1) places) (sym (decimal_step left more small))
       ∙ text
 
-  pub last-digit : left < 10 → drop first (set places first (48 + left)) ≡ decimal n
-  last-digit few =
+  pub last_digit : left < 10 → drop first (set places first (48 + left)) ≡ decimal n
+  last_digit few =
       behind (48 + left)
       ∙ ap (λ (t : List ℕ). t ++ drop (first + 1) places) (sym (decimal_digit left few))
       ∙ text

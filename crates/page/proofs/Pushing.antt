@@ -88,33 +88,33 @@ module _ (n len fits : ℕ) (cells bytes now : List ℕ) (full : length cells �
   front_long : length (take len cells) ≡ len
   front_long = length-take-le len cells (omega arith)
 
-  fits-bytes : fits ≤ length bytes
-  fits-bytes = omega (arith, min-le_left (length bytes) (n - len))
+  fits_bytes : fits ≤ length bytes
+  fits_bytes = omega (arith, min-le_left (length bytes) (n - len))
 
-  fits-room : fits ≤ n - len
-  fits-room = omega (arith, min-le_right (length bytes) (n - len))
+  fits_room : fits ≤ n - len
+  fits_room = omega (arith, min-le_right (length bytes) (n - len))
 
   both_long : length (take len cells ++ take fits bytes) ≡ len + fits
-  both_long = omega (arith, length-append (take len cells) (take fits bytes), front_long, length-take-le fits bytes fits-bytes)
+  both_long = omega (arith, length-append (take len cells) (take fits bytes), front_long, length-take-le fits bytes fits_bytes)
 
-  now-is : now ≡ (take len cells ++ take fits bytes) ++ drop (len + length (take fits bytes)) cells
-  now-is = laid-now ∙ sym (append_assoc (take len cells) (take fits bytes) (drop (len + length (take fits bytes)) cells))
+  now_is : now ≡ (take len cells ++ take fits bytes) ++ drop (len + length (take fits bytes)) cells
+  now_is = laid-now ∙ sym (append_assoc (take len cells) (take fits bytes) (drop (len + length (take fits bytes)) cells))
 
   pub still_full : length now ≡ n
   still_full =
       omega (
         arith,
-        fits-room,
+        fits_room,
         both_long,
-        length-take-le fits bytes fits-bytes,
+        length-take-le fits bytes fits_bytes,
         length-drop (len + length (take fits bytes)) cells,
-        ap length now-is,
+        ap length now_is,
         length-append (take len cells ++ take fits bytes) (drop (len + length (take fits bytes)) cells),
       )
 
   pub bytes_fit : take (len + fits) now ≡ take n (take len cells ++ bytes)
   bytes_fit =
-      ap (take (len + fits)) now-is
+      ap (take (len + fits)) now_is
       ∙ take_at (take len cells ++ take fits bytes) (drop (len + length (take fits bytes)) cells) (len + fits) both_long
       ∙ ap (λ (t : List ℕ). take len cells ++ t) (ap (λ (k : ℕ). take k bytes) few ∙ take_short (n - len) bytes)
       ∙ sym (take_behind n len (take len cells) bytes front_long low)

@@ -31,6 +31,12 @@ unheld below column small reference bus b =
     omega (arith, ints))
     (cases_lt column columns)
 
+-- so the layer reads the difference
+pub difference_in : (below : Grid) (column : ℕ) → SmallIn below column → (reference bus : ℕ) → bus < buses
+    → (reference_grid below reference).at bus column ≡ below.at bus column -ℤ below.at reference column
+unfolding reference_grid
+difference_in = unheld
+
 differences : (below : Grid) (reference column : ℕ) → SmallIn below column → (bus other : ℕ) → bus < buses → other < buses
     → relative_number below reference bus column -ℤ relative_number below reference other column ≡ below.at bus column -ℤ below.at other column
 differences below reference column small bus other b o =
@@ -53,7 +59,7 @@ reference_laws below reference = record {
   reference_bus_reads_zero = λ column.
       cond_both (inside reference column) (held (below.at reference column -ℤ below.at reference column)) (pos 0) (λ n. n ≡ pos 0)
       (λ _. held_none (below.at reference column)) (λ _. refl);
-  nothing_is_held_back = λ column small bus b. let own = unheld below column small reference bus b in omega (arith, ints);
-  differences_stay = differences below reference;
-  last_reference_counts = last_counts below reference;
+  nothing_is_held_back = λ small bus column b. let own = unheld below column (λ other. small other column) reference bus b in omega (arith, ints);
+  differences_stay = λ small bus other column. differences below reference column (λ b. small b column) bus other;
+  last_reference_counts = λ small last l bus column. last_counts below reference column (λ b. small b column) last l bus;
 }

@@ -56,7 +56,7 @@ one_place bus column other another b o apart e = apart (omega arith) (omega arit
 pub table_laws : (numbers : List ℤ) → TableLaws numbers (table_grid numbers)
 unfolding table_grid
 table_laws numbers = record {
-  all_are_small = λ column bus. table_small numbers bus column;
+  all_are_small = table_small numbers;
   what_stands_is_read = stands numbers;
   what_is_written_is_read = λ bus column z b c h w.
       cond-true (inside bus column) _ _ (is_inside bus column b c) ∙ ap counted (written numbers bus column z h) ∙ counted_small z w;

@@ -20,6 +20,10 @@ pub record Grid : Type 0 where
   pub within : (bus column : ℕ) → Within most_number (at bus column)
   pub outside : (bus column : ℕ) → Outside bus column → at bus column ≡ pos 0
 
--- every number of a column is one that a table may have, so that the difference of any two is a posting's number
+-- every number of the grid is one that a table may have, so that the difference of any two is a posting's number
+abbrev pub Small : Grid → Type 0
+Small g = (bus column : ℕ) → Within most_table_number (g.at bus column)
+
+-- every number of a column is one that a table may have
 abbrev pub SmallIn : Grid → ℕ → Type 0
 SmallIn g column = (bus : ℕ) → Within most_table_number (g.at bus column)

@@ -1,13 +1,13 @@
 -- Laws of tables and of reference buses, in the words of a desk that reads postings.
 use Rattle.std.specs.Prelude.{◌≡◌, ℕ, ◌+◌, ◌*◌, ◌<◌, ◌≤◌, List, length, ℤ, pos, ◌+ℤ◌, ◌-ℤ◌, ◌≢◌, slice_index_or, slice_set}
 use Rattle.posting.specs.Limits.{buses, columns, most_table_number}
-use Rattle.posting.specs.Grids.{Within, Grid, SmallIn}
+use Rattle.posting.specs.Grids.{Within, Grid, Small}
 use Rattle.posting.specs.Meanings.{table_grid, reference_grid}
 
 -- of the table over these numbers
 pub record TableLaws (numbers : List ℤ) (table : Grid) : Type 0 where
   -- no number of a table is more than 1,000,000 away from 0
-  pub all_are_small : (column : ℕ) → SmallIn table column
+  pub all_are_small : Small table
   -- a bus and column read what stands at their place, if a table may have it
   pub what_stands_is_read : (bus column : ℕ) → bus < buses → column < columns → Within most_table_number (slice_index_or numbers (column * buses + bus) (pos 0))
       → table.at bus column ≡ slice_index_or numbers (column * buses + bus) (pos 0)
@@ -30,13 +30,13 @@ pub record TableLaws (numbers : List ℤ) (table : Grid) : Type 0 where
 pub record ReferenceLaws (below : Grid) (reference : ℕ) (layer : Grid) : Type 0 where
   -- the reference bus reads 0 in every column
   pub reference_bus_reads_zero : (column : ℕ) → layer.at reference column ≡ pos 0
-  -- over a column of small numbers nothing is held back: a number and the reference bus's make the number below
-  pub nothing_is_held_back : (column : ℕ) → SmallIn below column
-      → (bus : ℕ) → bus < buses → layer.at bus column +ℤ below.at reference column ≡ below.at bus column
-  -- and a reference bus moves no difference between two buses
-  pub differences_stay : (column : ℕ) → SmallIn below column
-      → (bus other : ℕ) → bus < buses → other < buses
+  -- over small numbers nothing is held back: a number and the reference bus's make the number below
+  pub nothing_is_held_back : Small below
+      → (bus column : ℕ) → bus < buses → layer.at bus column +ℤ below.at reference column ≡ below.at bus column
+  -- over small numbers a reference bus moves no difference between two buses
+  pub differences_stay : Small below
+      → (bus other column : ℕ) → bus < buses → other < buses
       → layer.at bus column -ℤ layer.at other column ≡ below.at bus column -ℤ below.at other column
-  -- and the last reference bus is the one that counts
-  pub last_reference_counts : (column : ℕ) → SmallIn below column
-      → (last : ℕ) → last < buses → (bus : ℕ) → (reference_grid layer last).at bus column ≡ (reference_grid below last).at bus column
+  -- over small numbers the last reference bus is the one that counts
+  pub last_reference_counts : Small below
+      → (last : ℕ) → last < buses → (bus column : ℕ) → (reference_grid layer last).at bus column ≡ (reference_grid below last).at bus column

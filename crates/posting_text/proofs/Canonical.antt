@@ -13,8 +13,8 @@ use Rattle.decimals.specs.Canonical.{FewDigits}
 use Rattle.decimals.proofs.Signs.{own, decimal_signed, signed_decimal}
 use Rattle.cuts.specs.Cuts.{split, join}
 use Rattle.cuts.specs.Fields.{comma, form_at, letter_of}
-use Rattle.cuts.proofs.Cutting.{Plain, split-join, join-split}
-use Rattle.cuts.proofs.Taking.{taken-field, ended, only_byte}
+use Rattle.cuts.proofs.Cutting.{Plain, split_join, join_split}
+use Rattle.cuts.proofs.Taking.{taken_field, ended, only_byte}
 use Rattle.posting.specs.Limits.{buses, columns, most_table_number}
 use Rattle.posting.specs.Grids.{Within}
 use Rattle.posting.specs.Tables.{counts}
@@ -71,7 +71,7 @@ written_plain e r = join_plain (pieces_of (numbers_in e)) (pieces_plain line_end
 numbers_written : (e : Entry) → Right e → line_numbers (written e) ≡ Ok (numbers_in e)
 unfolding line_numbers
 numbers_written e r =
-    ap numbers_of (split-join comma (letter ∷ []) (signed (pos e.bus) ∷ signed (pos e.column) ∷ signed e.number ∷ []) (pieces_plain comma e (omega arith) r))
+    ap numbers_of (split_join comma (letter ∷ []) (signed (pos e.bus) ∷ signed (pos e.column) ∷ signed e.number ∷ []) (pieces_plain comma e (omega arith) r))
     ∙ rw (
       decimal_signed (pos e.bus) (few_index e.bus r.bus_inside),
       decimal_signed (pos e.column) (few_index e.column (let c = r.column_inside in omega arith)),
@@ -93,9 +93,9 @@ entry_written e r = ap (λ (n : Result Numbers Spot). and_then n entry_of) (numb
 -- and nothing else is read
 after_written : (ps : List (List ℕ)) (n : Numbers) → after_letter ps ≡ Ok n → ps ≡ signed n.bus ∷ signed n.column ∷ signed n.value ∷ []
 after_written ps n h =
-    let a = taken-field decimal_of 2 _ ps n h in
-    let b = taken-field decimal_of 3 _ a.2 n a.5 in
-    let c = taken-field decimal_of 4 _ b.2 n b.5 in
+    let a = taken_field decimal_of 2 _ ps n h in
+    let b = taken_field decimal_of 3 _ a.2 n a.5 in
+    let c = taken_field decimal_of 4 _ b.2 n b.5 in
     let d = ended 5 _ c.2 n c.5 in
     four a.1 b.1 c.1 a.0 b.0 c.0 ps a.2 b.2 c.2 n a.3 b.3 c.3 d.0 a.4 b.4 c.4 d.1
   where
@@ -125,4 +125,4 @@ unfolding line_entry line_numbers
 written_entry line e h =
     let n = then_held (line_numbers line) entry_of e h in
     let r = entry_held n.0 e n.2 in
-    (sym (join-split comma line) ∙ ap (join comma) (numbers_pieces (split comma line) n.0 n.1 ∙ ap pieces_of r.1), r.0)
+    (sym (join_split comma line) ∙ ap (join comma) (numbers_pieces (split comma line) n.0 n.1 ∙ ap pieces_of r.1), r.0)

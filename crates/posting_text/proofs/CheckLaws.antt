@@ -8,7 +8,7 @@ use Rattle.faults.specs.declared.Fault.{Fault}
 use Rattle.faults.specs.declared.Why.TheVariants.{Short}
 use Rattle.faults.specs.Faults.{spot, fault, in_line}
 use Rattle.cuts.specs.Cuts.{front, after, split}
-use Rattle.cuts.proofs.Cutting.{Plain, split-append}
+use Rattle.cuts.proofs.Cutting.{Plain, split_append}
 use Rattle.posting_text.specs.declared.entries.Entry.{Entry}
 use Rattle.posting_text.specs.Lines.{line_entry, and_then}
 use Rattle.posting_text.specs.Texts.{line_end, check_from, checking, passing, past_line}
@@ -131,7 +131,7 @@ check_says text r e = from_start text r (subst (Says 0 text) (sym e) (says (leng
 accepts_from : (n : ℕ) (es : List Entry) → All Right es → check_from n (split line_end (text_of es)) ≡ Ok (n + length es)
 accepts_from n [] h = ap Ok (omega arith)
 accepts_from n (e ∷ es) h =
-    ap (check_from n) (split-append line_end (written e) (text_of es) (written_plain e h.0))
+    ap (check_from n) (split_append line_end (written e) (text_of es) (written_plain e h.0))
     ∙ more_turn n (written e) (text_of es)
     ∙ ap (λ (x : Result Entry Spot). turn n (in_line (n + 1) (and_then x (λ _. Ok (text_of es))))) (entry_written e h.0)
     ∙ accepts_from (n + 1) es h.1

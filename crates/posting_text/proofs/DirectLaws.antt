@@ -3,7 +3,7 @@ use Rattle.std.proofs.Common.{◌≡◌, ℕ, true, false, ◌&&◌, eqb, List, 
 use Rattle.std.proofs.lemmas.Bool.{cond-true, cond-false, cond_both, cases_Bool, and_from, and_parts, both_ways, eqb-true, eq-eqb}
 use Rattle.faults.specs.declared.Spot.{Spot}
 use Rattle.cuts.specs.Cuts.{split, on_first}
-use Rattle.cuts.proofs.Cutting.{split-front, split_plain, split-append}
+use Rattle.cuts.proofs.Cutting.{split_front, split_plain, split_append}
 use Rattle.posting_text.specs.declared.entries.Entry.{Entry}
 use Rattle.posting_text.specs.Lines.{line_entry}
 use Rattle.posting_text.specs.Texts.{line_end, ended, lines}
@@ -24,7 +24,7 @@ split_more (b ∷ bs) t = ⊎_elim
     (λ (d : eqb b line_end ≡ true).
     cond-true _ _ _ d ∙ ap (λ l. [] ∷ l) (split_more bs t) ∙ ap (λ (l : List (List ℕ)). l ++ split line_end t) (sym (cond-true _ _ _ d)))
     (λ (d : eqb b line_end ≡ false).
-    cond-false _ _ _ d ∙ ap (on_first b) (split_more bs t) ∙ on_first_more b (split line_end bs) (split line_end t) _ _ (split-front line_end bs)
+    cond-false _ _ _ d ∙ ap (on_first b) (split_more bs t) ∙ on_first_more b (split line_end bs) (split line_end t) _ _ (split_front line_end bs)
     ∙ ap (λ (l : List (List ℕ)). l ++ split line_end t) (sym (cond-false _ _ _ d)))
     (cases_Bool (eqb b line_end))
 
@@ -37,7 +37,7 @@ lines_more : (s t : List ℕ) → lines (s ++ (line_end ∷ t)) ≡ split line_e
 unfolding lines
 lines_more s t =
     ap ended (split_more s t)
-    ∙ subst (λ (x : List (List ℕ)). ended (split line_end s ++ x) ≡ split line_end s ++ ended x) (sym (split-front line_end t)) (ended_append (split line_end s) _ _)
+    ∙ subst (λ (x : List (List ℕ)). ended (split line_end s ++ x) ≡ split line_end s ++ ended x) (sym (split_front line_end t)) (ended_append (split line_end s) _ _)
 
 -- the lines of a whole text stand before those of what follows it
 lines_append : (s t : List ℕ) → Whole s → lines (s ++ t) ≡ lines s ++ lines t
@@ -50,7 +50,7 @@ lines_append s t (inr w) =
 
 lines_one : (line : List ℕ) → OneLine line → lines (line ++ (line_end ∷ [])) ≡ line ∷ []
 unfolding lines
-lines_one line h = ap ended (split-append line_end line [] h)
+lines_one line h = ap ended (split_append line_end line [] h)
 
 lines_unended : (line : List ℕ) → OneLine line → lines line ≡ []
 unfolding lines
@@ -97,8 +97,8 @@ unfolding direct_number lines
 none_posted bus column = refl
 
 module _ (text : List ℕ) (whole : Whole text) where
-  right-line : (e : Entry) → Right e → (bus column : ℕ) → direct_number (with_line text (written e)) bus column ≡ number_after bus column (direct_number text bus column) (Ok e)
-  right-line e r bus column =
+  right_line : (e : Entry) → Right e → (bus column : ℕ) → direct_number (with_line text (written e)) bus column ≡ number_after bus column (direct_number text bus column) (Ok e)
+  right_line e r bus column =
       direct_line text (written e) whole (written_plain e r) bus column ∙ ap (number_after bus column (direct_number text bus column)) (entry_written e r)
 
   unended : (line : List ℕ) → OneLine line → (bus column : ℕ) → direct_number (text ++ line) bus column ≡ direct_number text bus column
@@ -112,26 +112,26 @@ module _ (text : List ℕ) (whole : Whole text) where
         both_ways (eqb second.bus bus && eqb second.column column) f
         (and_from (eqb second.bus bus) (eqb second.column column) (eq-eqb second.bus bus (sym (b ∙ same_bus))) (eq-eqb second.column column (sym (c ∙ same_column))))
 
-    before-second : eqb second.bus bus && eqb second.column column ≡ false
+    before_second : eqb second.bus bus && eqb second.column column ≡ false
         → direct_number (with_line text (written first) ++ between) bus column ≡ direct_number (text ++ between) bus column
-    before-second f =
+    before_second f =
         direct_append (with_line text (written first)) between (whole_line text (written first)) bus column
         ∙ ap (λ (z : ℤ). last_number bus column z (lines between))
-        (right-line first right_first bus column ∙ number_else first bus column (direct_number text bus column) (not_there f))
+        (right_line first right_first bus column ∙ number_else first bus column (direct_number text bus column) (not_there f))
         ∙ sym (direct_append text between whole bus column)
 
     with_second : (s : List ℕ) → Whole s → direct_number (with_line s (written second)) bus column ≡ number_after bus column (direct_number s bus column) (Ok second)
     with_second s w =
         direct_line s (written second) w (written_plain second right_second) bus column ∙ ap (number_after bus column (direct_number s bus column)) (entry_written second right_second)
 
-    pub first-of-two : direct_number (with_line (with_line text (written first) ++ between) (written second)) bus column
+    pub first_of_two : direct_number (with_line (with_line text (written first) ++ between) (written second)) bus column
         ≡ direct_number (with_line (text ++ between) (written second)) bus column
-    first-of-two =
+    first_of_two =
         with_second (with_line text (written first) ++ between) (whole_append (with_line text (written first)) between (whole_line text (written first)) whole_between)
         ∙ ⊎_elim
         (λ (t : eqb second.bus bus && eqb second.column column ≡ true). cond-true _ _ _ t ∙ sym (cond-true _ _ _ t))
         (λ (f : eqb second.bus bus && eqb second.column column ≡ false).
-        ap (λ (z : ℤ). number_after bus column z (Ok second)) (before-second f))
+        ap (λ (z : ℤ). number_after bus column z (Ok second)) (before_second f))
         (cases_Bool (eqb second.bus bus && eqb second.column column))
         ∙ sym (with_second (text ++ between) (whole_append text between whole whole_between))
 
@@ -140,10 +140,10 @@ unfolding direct_grid
 direct_laws text = record {
   all_are_small = λ column bus. direct_small text bus column;
   empty_reads_zero = λ e bus column. ap (λ (t : List ℕ). direct_number t bus column) e ∙ none_posted bus column;
-  right_line_is_read = λ w e r. right-line text w e r e.bus e.column ∙ number_here e (direct_number text e.bus e.column);
-  other_places_stay = λ w e r bus column apart. right-line text w e r bus column ∙ number_else e bus column (direct_number text bus column) apart;
+  right_line_is_read = λ w e r. right_line text w e r e.bus e.column ∙ number_here e (direct_number text e.bus e.column);
+  other_places_stay = λ w e r bus column apart. right_line text w e r bus column ∙ number_else e bus column (direct_number text bus column) apart;
   wrong_line_changes_nothing = λ w line one wrong bus column.
       direct_line text line w one bus column ∙ wrong_stays line (line_entry line) wrong refl bus column (direct_number text bus column);
   unended_line_changes_nothing = λ w line one bus column. unended text w line one bus column;
-  first_of_two_does_not_matter = λ w between wb first second rf rs sb sc bus column. first-of-two text w between wb first second rf rs sb sc bus column;
+  first_of_two_does_not_matter = λ w between wb first second rf rs sb sc bus column. first_of_two text w between wb first second rf rs sb sc bus column;
 }

@@ -116,11 +116,11 @@ module _ (price : Meaning → Result ℤ Refusal) where
   abbrev zone_entry : ℕ → Entry
   zone_entry zone = record { point = zone_point zone; answer = own_price (price (zone_meaning zone)) }
 
-  hub-answer : (hub : Hub) → PricedAt price (hub_point hub) (hub_priced price hub)
-  hub-answer hub = (λ other e. ap (hub_priced price) (same_hub hub other e), λ none. absurd (none hub refl))
+  hub_answer : (hub : Hub) → PricedAt price (hub_point hub) (hub_priced price hub)
+  hub_answer hub = (λ other e. ap (hub_priced price) (same_hub hub other e), λ none. absurd (none hub refl))
 
-  zone-answer : (zone : ℕ) → 1 ≤ zone → zone ≤ 16 → PricedAt price (zone_point zone) (own_price (price (zone_meaning zone)))
-  zone-answer zone low high = (
+  zone_answer : (zone : ℕ) → 1 ≤ zone → zone ≤ 16 → PricedAt price (zone_point zone) (own_price (price (zone_meaning zone)))
+  zone_answer zone low high = (
     λ other e. ap (λ (n : ℕ). own_price (price (zone_meaning n))) (same_number e),
     λ none. absurd (none (record { number = zone; within = (low, high) }) refl),
   )
@@ -129,41 +129,41 @@ module _ (price : Meaning → Result ℤ Refusal) where
       same_number e = cc
 
   module _ (h : Hour) where
-    abbrev all-entries : List Entry
-    all-entries = map hub_entry hubs ++ map zone_entry (zones_to h 16)
+    abbrev all_entries : List Entry
+    all_entries = map hub_entry hubs ++ map zone_entry (zones_to h 16)
 
     -- what holds of each hub, and of each zone that has a bus
-    each-entry : (P : Entry → Type 0) → ((hub : Hub) → P (hub_entry hub)) → ((zone : ℕ) → Kept h 16 zone → P (zone_entry zone)) → All P all-entries
-    each-entry P of_hub_range of-zone =
+    each_entry : (P : Entry → Type 0) → ((hub : Hub) → P (hub_entry hub)) → ((zone : ℕ) → Kept h 16 zone → P (zone_entry zone)) → All P all_entries
+    each_entry P of_hub_range of-zone =
         All-append P (map hub_entry hubs) (map zone_entry (zones_to h 16))
         (All-map P hub_entry hubs (every_hub (λ x. P (hub_entry x)) of_hub_range hubs))
         (All-map P zone_entry (zones_to h 16) (All-weaker (Kept h 16) (λ z. P (zone_entry z)) of-zone (zones_to h 16) (zones_kept h 16)))
 
-    whole-text : priced_lines price h ≡ flat_map entry_line all-entries
-    whole-text =
+    whole_text : priced_lines price h ≡ flat_map entry_line all_entries
+    whole_text =
         ap (λ (t : List ℕ). t ++ flat_map (zone_line price) (zones_to h 16)) (joined_map hub_entry hubs)
         ∙ ap (λ (t : List ℕ). flat_map entry_line (map hub_entry hubs) ++ t) (joined_map zone_entry (zones_to h 16))
         ∙ sym (joined_append entry_line (map hub_entry hubs) (map zone_entry (zones_to h 16)))
 
-    every-listed : (k : Kind) (z : ℤ) → Listed h k z → Has (map (λ (e : Entry). e.point) all-entries) (record { kind = k; number = z })
-    every-listed kind.Hub z l =
-        subst (λ (y : ℤ). Has (map (λ (e : Entry). e.point) all-entries) (record { kind = kind.Hub; number = y })) (sym l.1)
-        (has_map (λ (e : Entry). e.point) all-entries (hub_entry l.0)
+    every_listed : (k : Kind) (z : ℤ) → Listed h k z → Has (map (λ (e : Entry). e.point) all_entries) (record { kind = k; number = z })
+    every_listed kind.Hub z l =
+        subst (λ (y : ℤ). Has (map (λ (e : Entry). e.point) all_entries) (record { kind = kind.Hub; number = y })) (sym l.1)
+        (has_map (λ (e : Entry). e.point) all_entries (hub_entry l.0)
         (has_append_left (map hub_entry hubs) (map zone_entry (zones_to h 16)) (hub_entry l.0) (has_map hub_entry hubs l.0 (has_hub l.0))))
-    every-listed kind.Zone z l =
+    every_listed kind.Zone z l =
         let zone = l.0 in
         let kept : Kept h 16 l.0 = record { low = l.2; high = l.3; has = has_bus_placed h zone l.4 } in
-        subst (λ (y : ℤ). Has (map (λ (e : Entry). e.point) all-entries) (record { kind = kind.Zone; number = y })) (sym l.1)
-        (has_map (λ (e : Entry). e.point) all-entries (zone_entry zone)
+        subst (λ (y : ℤ). Has (map (λ (e : Entry). e.point) all_entries) (record { kind = kind.Zone; number = y })) (sym l.1)
+        (has_map (λ (e : Entry). e.point) all_entries (zone_entry zone)
         (has_append_right (map hub_entry hubs) (map zone_entry (zones_to h 16)) (zone_entry zone) (has_map zone_entry (zones_to h 16) zone (has_zone h 16 zone kept))))
-    every-listed kind.Tie z l = absurd l
+    every_listed kind.Tie z l = absurd l
 
-    zones-ascend : (n : ℕ) → Ascending (map zone_entry (zones_to h n))
+    zones_ascend : (n : ℕ) → Ascending (map zone_entry (zones_to h n))
     unfolding zones_to
-    zones-ascend zero = tt
-    zones-ascend (suc n) =
+    zones_ascend zero = tt
+    zones_ascend (suc n) =
         subst Ascending (sym (map-append zone_entry (zones_to h n) (cond (has_bus h (suc n)) (suc n ∷ []) [])))
-        (ascending_append (map zone_entry (zones_to h n)) (map zone_entry (cond (has_bus h (suc n)) (suc n ∷ []) [])) (zones-ascend n) (one (has_bus h (suc n)) (suc n))
+        (ascending_append (map zone_entry (zones_to h n)) (map zone_entry (cond (has_bus h (suc n)) (suc n ∷ []) [])) (zones_ascend n) (one (has_bus h (suc n)) (suc n))
         (All-map (λ e. All (λ f. Before e.point f.point) (map zone_entry (cond (has_bus h (suc n)) (suc n ∷ []) []))) zone_entry (zones_to h n)
         (All-weaker (Kept h n) (λ z. All (λ f. Before (zone_point z) f.point) (map zone_entry (cond (has_bus h (suc n)) (suc n ∷ []) [])))
         (λ z k. last (has_bus h (suc n)) z (suc n) (omega (arith, k.high))) (zones_to h n) (zones_kept h n))))
@@ -176,20 +176,20 @@ module _ (price : Meaning → Result ℤ Refusal) where
         last true z zone l = (inr (refl, by_number z zone l), tt)
         last false z zone l = tt
 
-    hub-before : (a b : Hub) → hub_number a < hub_number b → Before (hub_point a) (hub_point b)
-    hub-before a b l = inr (refl, by_number (hub_number a) (hub_number b) l)
+    hub_before : (a b : Hub) → hub_number a < hub_number b → Before (hub_point a) (hub_point b)
+    hub_before a b l = inr (refl, by_number (hub_number a) (hub_number b) l)
 
-    hubs-ascend : Ascending (map hub_entry hubs)
-    hubs-ascend = (
-      (hub-before North South (lit< tt), (hub-before North Houston (lit< tt), (hub-before North West (lit< tt), (hub-before North Panhandle (lit< tt), (hub-before North Average (lit< tt), tt))))),
+    hubs_ascend : Ascending (map hub_entry hubs)
+    hubs_ascend = (
+      (hub_before North South (lit< tt), (hub_before North Houston (lit< tt), (hub_before North West (lit< tt), (hub_before North Panhandle (lit< tt), (hub_before North Average (lit< tt), tt))))),
       (
-        (hub-before South Houston (lit< tt), (hub-before South West (lit< tt), (hub-before South Panhandle (lit< tt), (hub-before South Average (lit< tt), tt)))),
+        (hub_before South Houston (lit< tt), (hub_before South West (lit< tt), (hub_before South Panhandle (lit< tt), (hub_before South Average (lit< tt), tt)))),
         (
-          (hub-before Houston West (lit< tt), (hub-before Houston Panhandle (lit< tt), (hub-before Houston Average (lit< tt), tt))),
+          (hub_before Houston West (lit< tt), (hub_before Houston Panhandle (lit< tt), (hub_before Houston Average (lit< tt), tt))),
           (
-            (hub-before West Panhandle (lit< tt), (hub-before West Average (lit< tt), tt)),
+            (hub_before West Panhandle (lit< tt), (hub_before West Average (lit< tt), tt)),
             (
-              (hub-before Panhandle Average (lit< tt), tt),
+              (hub_before Panhandle Average (lit< tt), tt),
               (tt, tt),
             ),
           ),
@@ -197,24 +197,24 @@ module _ (price : Meaning → Result ℤ Refusal) where
       ),
     )
 
-    all-ascend : Ascending all-entries
-    all-ascend =
-        ascending_append (map hub_entry hubs) (map zone_entry (zones_to h 16)) hubs-ascend (zones-ascend 16)
+    all_ascend : Ascending all_entries
+    all_ascend =
+        ascending_append (map hub_entry hubs) (map zone_entry (zones_to h 16)) hubs_ascend (zones_ascend 16)
         (All-map (λ e. All (λ f. Before e.point f.point) (map zone_entry (zones_to h 16))) hub_entry hubs
         (every_hub (λ x. All (λ f. Before (hub_point x) f.point) (map zone_entry (zones_to h 16)))
         (λ x. All-map (λ f. Before (hub_point x) f.point) zone_entry (zones_to h 16)
         (All-weaker (Kept h 16) (λ z. Before (hub_point x) (zone_point z)) (λ z k. inl (lit< tt)) (zones_to h 16) (zones_kept h 16))) hubs))
 
-    pub lines-show : Shows price h (priced_lines price h)
-    lines-show = record {
-      lines = all-entries;
-      whole = whole-text;
-      answers = each-entry (λ e. PricedAt price e.point e.answer) hub-answer (λ z k. zone-answer z k.low k.high);
+    pub lines_show : Shows price h (priced_lines price h)
+    lines_show = record {
+      lines = all_entries;
+      whole = whole_text;
+      answers = each_entry (λ e. PricedAt price e.point e.answer) hub_answer (λ z k. zone_answer z k.low k.high);
       listed =
-          each-entry (λ e. Listed h e.point.kind e.point.number) (λ x. (x, refl))
+          each_entry (λ e. Listed h e.point.kind e.point.number) (λ x. (x, refl))
           (λ z k. (z, refl, k.low, k.high, placed h z k.has));
-      every = λ p l. every-listed p.kind p.number l;
-      ascending = all-ascend;
+      every = λ p l. every_listed p.kind p.number l;
+      ascending = all_ascend;
     }
 
 -- the bytes that were written

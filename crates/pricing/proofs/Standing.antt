@@ -29,8 +29,8 @@ price_of : {T : Type 0} (number_of : T → ℕ) (priced priced' : T → Priced) 
 price_of number_of priced priced' z r same was = (λ p e. was.0 p e ∙ same p e, was.1)
 
 module _ (price price' : Meaning → Result ℤ Refusal) (base : View) (Of : Meaning → Type 0) (stands : Stands price price' base Of) where
-  hub-stands : (h : Hub) → Of (hub_takes base h) → hub_priced price h ≡ hub_priced price' h
-  hub-stands h of =
+  hub_stands : (h : Hub) → Of (hub_takes base h) → hub_priced price h ≡ hub_priced price' h
+  hub_stands h of =
       let total = hub_total h base in
       let own = hub_meaning h in
       let average = hub_meaning Average in
@@ -45,9 +45,9 @@ module _ (price price' : Meaning → Result ℤ Refusal) (base : View) (Of : Mea
       (cases_eq total 0)
 
   by_kind : (k : Kind) (z : ℤ) (r : Priced) → TakenByKind base k z Of → PriceOfKind price k z r → PriceOfKind price' k z r
-  by_kind kind.Hub z r of was = price_of _ _ _ z r (λ h e. hub-stands h (of h e)) was
+  by_kind kind.Hub z r of was = price_of _ _ _ z r (λ h e. hub_stands h (of h e)) was
   by_kind kind.Zone z r of was = price_of _ _ _ z r (λ a e. ap own_price (stands.priced_the_same _ (of a e))) was
   by_kind kind.Tie z r of was = price_of _ _ _ z r (λ t e. ap own_price (stands.priced_the_same _ (of t e))) was
 
-  pub point-stands : (p : Point) (r : Priced) → OfTaken base p Of → PricedAt price p r → PricedAt price' p r
-  point-stands p r of was = by_kind p.kind p.number r of was
+  pub point_stands : (p : Point) (r : Priced) → OfTaken base p Of → PricedAt price p r → PricedAt price' p r
+  point_stands p r of was = by_kind p.kind p.number r of was

@@ -17,8 +17,8 @@ module _ (total : ℕ) (cents : ℤ) where
   abbrev weighed : Result ℤ Refusal
   weighed = cond (eqb total 0) (Err NoWeight) (Ok cents)
 
-  none-refused : total ≡ 0 → weighed ≡ Err NoWeight
-  none-refused none = cond-true (eqb total 0) (Err NoWeight) (Ok cents) (eq-eqb total 0 none)
+  none_refused : total ≡ 0 → weighed ≡ Err NoWeight
+  none_refused none = cond-true (eqb total 0) (Err NoWeight) (Ok cents) (eq-eqb total 0 none)
 
   some_alone : (total ≡ 0 → ⊥) → (a b : Result ℤ Refusal) → hub_price weighed a ≡ hub_price weighed b
   some_alone some a b =
@@ -35,26 +35,26 @@ abbrev pub without_weight_in : Bool → Result ℤ Refusal
 without_weight_in filled = cond filled (Err NoWeight) (Err SecondsShort)
 
 module _ (m : Meaning) (p : Grid) (book : Book) where
-  pub day-ahead-without : m.total (base_case book) ≡ 0 → day_ahead_price m p book ≡ without_weight (entries book).lambda
-  day-ahead-without none = by (entries book).lambda
+  pub day_ahead_without : m.total (base_case book) ≡ 0 → day_ahead_price m p book ≡ without_weight (entries book).lambda
+  day_ahead_without none = by (entries book).lambda
     where
       by : (o : Option ℤ) → price_at m p book o ≡ without_weight o
       by None = refl
-      by (Some l) = none-refused (m.total (base_case book)) _ none
+      by (Some l) = none_refused (m.total (base_case book)) _ none
 
-  pub day-ahead-alone : (m.total (base_case book) ≡ 0 → ⊥) → (a b : Result ℤ Refusal) → hub_price (day_ahead_price m p book) a ≡ hub_price (day_ahead_price m p book) b
-  day-ahead-alone some a b = by (entries book).lambda
+  pub day_ahead_alone : (m.total (base_case book) ≡ 0 → ⊥) → (a b : Result ℤ Refusal) → hub_price (day_ahead_price m p book) a ≡ hub_price (day_ahead_price m p book) b
+  day_ahead_alone some a b = by (entries book).lambda
     where
       by : (o : Option ℤ) → hub_price (price_at m p book o) a ≡ hub_price (price_at m p book o) b
       by None = refl
       by (Some l) = some_alone (m.total (base_case book)) _ some a b
 
-  pub real-time-without : m.total (base_view book) ≡ 0 → real_time_price m p book ≡ without_weight_in (eqb (total_seconds (entries book).runs) interval)
-  real-time-without none =
-      ap (λ (x : Result ℤ Refusal). cond (eqb (total_seconds (entries book).runs) interval) x (Err SecondsShort)) (none-refused (m.total (base_view book)) _ none)
+  pub real_time_without : m.total (base_view book) ≡ 0 → real_time_price m p book ≡ without_weight_in (eqb (total_seconds (entries book).runs) interval)
+  real_time_without none =
+      ap (λ (x : Result ℤ Refusal). cond (eqb (total_seconds (entries book).runs) interval) x (Err SecondsShort)) (none_refused (m.total (base_view book)) _ none)
 
-  pub real-time-alone : (m.total (base_view book) ≡ 0 → ⊥) → (a b : Result ℤ Refusal) → hub_price (real_time_price m p book) a ≡ hub_price (real_time_price m p book) b
-  real-time-alone some a b = by (eqb (total_seconds (entries book).runs) interval)
+  pub real_time_alone : (m.total (base_view book) ≡ 0 → ⊥) → (a b : Result ℤ Refusal) → hub_price (real_time_price m p book) a ≡ hub_price (real_time_price m p book) b
+  real_time_alone some a b = by (eqb (total_seconds (entries book).runs) interval)
     where
       by : (t : Bool) → hub_price (cond t (price_in m p book) (Err SecondsShort)) a ≡ hub_price (cond t (price_in m p book) (Err SecondsShort)) b
       by true = some_alone (m.total (base_view book)) _ some a b

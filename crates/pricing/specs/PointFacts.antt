@@ -6,7 +6,7 @@ use Rattle.posting.specs.Meanings.{reference_grid}
 use Rattle.weighting.specs.declared.points.Point.{Point}
 use Rattle.day_ahead.specs.Prices.{base_case, day_ahead_price}
 use Rattle.day_ahead.specs.Facts.{LiveFacts}
-use Rattle.day_ahead.specs.Moves.{Moved}
+use Rattle.day_ahead.specs.Moves.{PostedMoved}
 use Rattle.real_time.specs.Weights.{base_view}
 use Rattle.real_time.specs.Prices.{real_time_price}
 use Rattle.real_time.specs.Laws.{SameFacts}
@@ -32,7 +32,7 @@ RealTimeFactsDecide p prices book r = (book' : Book) (prices' : Grid) → RealTi
 
 -- a second book alike, with lambda lower by the congestion of the bus; under every posted constraint the weighting that the point's price takes has weight, and all factors are small
 abbrev pub PointMoved : Point → Grid → ℕ → Book → Book → Type 0
-PointMoved p factors bus book book' = OfTaken (base_case book) p (λ m. Moved m factors bus book book')
+PointMoved p factors bus book book' = OfTaken (base_case book) p (λ m. PostedMoved m factors bus book book')
 
 -- cents and origin of the second book against that bus as the reference are these
 abbrev pub PointReferenceStays : Point → Grid → Book → Priced → Type 0

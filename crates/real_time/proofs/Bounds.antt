@@ -9,7 +9,7 @@ use Rattle.posting.specs.Grids.{Within}
 use Rattle.numbers.specs.Rounding.{Nearest}
 use Rattle.weighting.specs.Sums.{sum_below}
 use Rattle.weighting.specs.SumLaws.{sum_more, sum_part}
-use Rattle.numbers.specs.Sums.{sum_z}
+use Rattle.real_time.specs.Sums.{sum_z}
 
 pub within_more : (h k : ℕ) (z : ℤ) → h ≤ k → Within h z → Within k z
 within_more h k z l w = record { low = omega (arith, ints); high = omega (arith, ints) }
@@ -44,16 +44,16 @@ pub nearest_within : (h k d : ℕ) (n r : ℤ) → 2 ≤ d → Within k n → k 
 nearest_within h k d n r l w m near = half_within h d r l (record { low = omega (arith, ints, near.low, near.high); high = omega (arith, ints, near.low, near.high) })
 
 module _ (w : ℕ → ℕ) (p : ℕ → ℤ) (small : sum_below w 256 ≤ 2560000) (within : (b : ℕ) → Within 2000000 (p b)) where
-  pub one-weight : (b : ℕ) → b < 256 → w b ≤ 2560000
-  one-weight b h = omega (arith, sum_more w b, sum_part w (b + 1) 256 (omega arith))
+  pub one_weight : (b : ℕ) → b < 256 → w b ≤ 2560000
+  one_weight b h = omega (arith, sum_more w b, sum_part w (b + 1) 256 (omega arith))
 
-  pub weighted-within : (n : ℕ) → n ≤ 256 → Within 5120000000000 (sum_z (λ b. pos (w b) *ℤ p b) n)
-  weighted-within n h =
+  pub weighted_within : (n : ℕ) → n ≤ 256 → Within 5120000000000 (sum_z (λ b. pos (w b) *ℤ p b) n)
+  weighted_within n h =
       within_more (sum_below w n * 2000000) 5120000000000 (sum_z (λ b. pos (w b) *ℤ p b) n) (omega (arith, sum_part w n 256 h)) (within_sum w p 2000000 n within)
 
-  pub product-within : (b : ℕ) → b < 256 → Within 5120000000000 (pos (w b) *ℤ p b)
-  product-within b h =
-      within_mul 2560000 2000000 (pos (w b)) (p b) (within_pos (w b) 2560000 (one-weight b h)) (within b)
+  pub product_within : (b : ℕ) → b < 256 → Within 5120000000000 (pos (w b) *ℤ p b)
+  product_within b h =
+      within_mul 2560000 2000000 (pos (w b)) (p b) (within_pos (w b) 2560000 (one_weight b h)) (within b)
 
 -- a number has a nearest fraction only by a divisor that is not 0
 pub nearest_some : (n : ℤ) (d : ℕ) (r : ℤ) → Nearest n d r → 0 < d

@@ -21,7 +21,7 @@ use Rattle.real_time.specs.Prices.{interval, floor_price, run_part, hour_sum, ce
 use Rattle.real_time.specs.Laws.{NearestAbove, SameFacts}
 use Rattle.refusals.specs.declared.Refusal.{Refusal}
 use Rattle.refusals.specs.declared.Refusal.TheVariants.{SecondsShort, NoWeight}
-use Rattle.numbers.proofs.Sums.{sum_z_same}
+use Rattle.real_time.proofs.Sums.{sum_z_same}
 
 not_below : (x : ℤ) → floor_price ≤ℤ int_max x floor_price
 not_below x = omega (arith, ints, clamps)
@@ -46,34 +46,32 @@ module _ (w u : ℕ → ℕ) (same : (b : ℕ) → b < 256 → w b ≡ u b) (p q
       (sum_z_same (λ b. pos (w b) *ℤ p.at b k) (λ b. pos (u b) *ℤ q.at b k) 256 (λ b l. term_same (w b) (u b) (p.at b k) (q.at b k) (same b l) (h run refl b l)))
 
   -- the same weights, total and runs, and the same prices where a bus weighs in an entered run
-  pub hour-same : (t s : ℕ) (f g : ℕ → Option Run) → t ≡ s → ((k : ℕ) → k < 16 → f k ≡ g k)
+  pub hour_same : (t s : ℕ) (f g : ℕ → Option Run) → t ≡ s → ((k : ℕ) → k < 16 → f k ≡ g k)
       → ((k : ℕ) → k < 16 → (run : Run) → f k ≡ Some run → (b : ℕ) → b < 256 → 0 < w b → p.at b k ≡ q.at b k) → hour_sum w p t f ≡ hour_sum u q s g
-  hour-same t s f g e runs prices =
+  hour_same t s f g e runs prices =
       sum_z_same (λ k. run_part w p t k (f k)) (λ k. run_part u q t k (g k)) 16 (λ k l. part_same t k (f k) (prices k l) ∙ ap (run_part u q t k) (runs k l))
       ∙ ap (λ (n : ℕ). hour_sum u q n g) e
 
 abbrev pub priced : ℕ → ℕ → ℤ → Result ℤ Refusal
 priced seconds total sum = cond (eqb seconds interval) (cond (eqb total 0) (Err NoWeight) (Ok (cents_of sum total))) (Err SecondsShort)
 
-pub seconds_same : (m : Meaning) (p q : Grid) (a b : Book) → SameFacts m p q a b → total_seconds (entries a).runs ≡ total_seconds (entries b).runs
-seconds_same m p q a b same = ap total_seconds (ext_get_or None a.runs b.runs (a.columns.1 ∙ sym b.columns.1) (λ k l. same.runs k (omega (arith, a.columns.1))))
-
 pub same_facts : (m : Meaning) (p q : Grid) (a b : Book) → SameFacts m p q a b → real_time_price m p a ≡ real_time_price m q b
 same_facts m p q a b same =
     let ta = m.total (base_view a) in
     let tb = m.total (base_view b) in
     let total : ta ≡ tb = total_alike m (base_view a) (base_view b) same.buses in
+    let lists : a.runs ≡ b.runs = ext_get_or None a.runs b.runs (a.columns.1 ∙ sym b.columns.1) (λ k l. same.runs k (omega (arith, a.columns.1))) in
     let sums : base_sum m p a ≡ base_sum m q b =
-    hour-same (m.weight (base_view a)) (m.weight (base_view b)) (m.alike_weigh_the_same (base_view a) (base_view b) same.buses) p q ta tb
+    hour_same (m.weight (base_view a)) (m.weight (base_view b)) (m.alike_weigh_the_same (base_view a) (base_view b) same.buses) p q ta tb
     (run_at (entries a)) (run_at (entries b)) total same.runs same.prices in
-    ap (λ (n : ℕ). priced n ta (base_sum m p a)) (seconds_same m p q a b same)
+    ap (λ (n : ℕ). priced n ta (base_sum m p a)) (ap total_seconds lists)
     ∙ ap (λ (t : ℕ). priced (total_seconds b.runs) t (base_sum m p a)) total
     ∙ ap (priced (total_seconds b.runs) tb) sums
 
 -- what the program finds out about a book, and the price that it stands for
 module _ (m : Meaning) (p : Grid) (book : Book) where
-  pub not-900 : eqb (total_seconds (entries book).runs) interval ≡ false → real_time_price m p book ≡ Err SecondsShort
-  not-900 other = cond-false (eqb (total_seconds (entries book).runs) interval) _ _ other
+  pub not_900 : eqb (total_seconds (entries book).runs) interval ≡ false → real_time_price m p book ≡ Err SecondsShort
+  not_900 other = cond-false (eqb (total_seconds (entries book).runs) interval) _ _ other
 
   module _ (w : Weights) (based : BaseWeights m book w) where
     pub light : Light w
@@ -88,24 +86,24 @@ module _ (m : Meaning) (p : Grid) (book : Book) where
       sum_is : sum ≡ base_sum m p book
       sum_is =
           summed
-          ∙ hour-same (weight_in w) (m.weight (base_view book)) based.0 p p w.total (m.total (base_view book))
+          ∙ hour_same (weight_in w) (m.weight (base_view book)) based.0 p p w.total (m.total (base_view book))
           (run_at (entries book)) (run_at (entries book)) based.1 (λ k l. refl) (λ k l run e b low some. refl)
 
-      pub no-weight : w.total ≡ 0 → real_time_price m p book ≡ Err NoWeight
-      no-weight none =
+      pub no_weight : w.total ≡ 0 → real_time_price m p book ≡ Err NoWeight
+      no_weight none =
           let t = m.total (base_view book) in
           cond-true (eqb (total_seconds (entries book).runs) interval) (price_in m p book) (Err SecondsShort) filled ∙ cond-true (eqb t 0) (Err NoWeight) (Ok (cents_of (base_sum m p book) t)) (eq-eqb t 0 (sym based.1 ∙ none))
 
       module _ (some : 0 < w.total) (price : ℤ) (rounded : price ≡ cents_of sum w.total) where
-        cents-is : price ≡ cents_of (base_sum m p book) (m.total (base_view book))
-        cents-is = rounded ∙ ap₂ cents_of sum_is based.1
+        cents_is : price ≡ cents_of (base_sum m p book) (m.total (base_view book))
+        cents_is = rounded ∙ ap₂ cents_of sum_is based.1
 
         pub granted : real_time_price m p book ≡ Ok price
         granted =
             let t = m.total (base_view book) in
             cond-true (eqb (total_seconds (entries book).runs) interval) (price_in m p book) (Err SecondsShort) filled
             ∙ cond-false (eqb t 0) (Err NoWeight) (Ok (cents_of (base_sum m p book) t)) (ne_eqb t 0 (λ z. omega (arith, based.1)))
-            ∙ ap Ok (sym cents-is)
+            ∙ ap Ok (sym cents_is)
 
         pub nearest : NearestAbove (base_sum m p book) (interval * m.total (base_view book)) price
-        nearest = subst (NearestAbove (base_sum m p book) (interval * m.total (base_view book))) (sym cents-is) (cents_nearest (base_sum m p book) (m.total (base_view book)) (omega (arith, based.1)))
+        nearest = subst (NearestAbove (base_sum m p book) (interval * m.total (base_view book))) (sym cents_is) (cents_nearest (base_sum m p book) (m.total (base_view book)) (omega (arith, based.1)))

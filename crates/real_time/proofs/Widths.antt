@@ -30,51 +30,51 @@ module _ (p : ℤ) (t : ℕ) (a b : ℤ) (s : ℕ) (prices : Within 512000000000
   abbrev pub adders : ℤ
   adders = to_z w128 (of_z w128 (to_z w64 (of_z w64 (to_z w64 (of_z w64 a) +ℤ to_z w64 (of_z w64 b)))))
 
-  abbrev pub added-on : ℤ
-  added-on = to_z w128 t *ℤ adders
+  abbrev pub added_on : ℤ
+  added_on = to_z w128 t *ℤ adders
 
   abbrev pub raised : ℤ
-  raised = to_z w128 (of_z w128 (to_z w64 (of_z w64 p))) +ℤ to_z w128 (of_z w128 added-on)
+  raised = to_z w128 (of_z w128 (to_z w64 (of_z w64 p))) +ℤ to_z w128 (of_z w128 added_on)
 
   abbrev pub timed : ℤ
   timed = to_z w128 (of_z w128 raised) *ℤ to_z w128 s
 
-  adders-is : adders ≡ a +ℤ b
-  adders-is = omega (arith, ints, reserve, reliability)
+  adders_is : adders ≡ a +ℤ b
+  adders_is = omega (arith, ints, reserve, reliability)
 
-  added-on-is : added-on ≡ pos t *ℤ (a +ℤ b)
-  added-on-is = let e : to_z w128 t ≡ pos t = omega (arith, ints) in ap₂ (λ (x y : ℤ). x *ℤ y) e adders-is
+  added_on_is : added_on ≡ pos t *ℤ (a +ℤ b)
+  added_on_is = let e : to_z w128 t ≡ pos t = omega (arith, ints) in ap₂ (λ (x y : ℤ). x *ℤ y) e adders_is
 
-  added-on-within : Within 5120000000000 (pos t *ℤ (a +ℤ b))
-  added-on-within = within_mul 2560000 2000000 (pos t) (a +ℤ b) (within_pos t 2560000 total) (within_add 1000000 1000000 a b reserve reliability)
+  added_on_within : Within 5120000000000 (pos t *ℤ (a +ℤ b))
+  added_on_within = within_mul 2560000 2000000 (pos t) (a +ℤ b) (within_pos t 2560000 total) (within_add 1000000 1000000 a b reserve reliability)
 
-  pub added-on-fits : SFits w128 added-on
-  added-on-fits = subst (SFits w128) (sym added-on-is) (fits_128 (within_more 5120000000000 680000000000000000 _ (omega arith) added-on-within))
+  pub added_on_fits : SFits w128 added_on
+  added_on_fits = subst (SFits w128) (sym added_on_is) (fits_128 (within_more 5120000000000 680000000000000000 _ (omega arith) added_on_within))
 
   raised_is : raised ≡ p +ℤ (pos t *ℤ (a +ℤ b))
   raised_is =
       let e : to_z w128 (of_z w128 (to_z w64 (of_z w64 p))) ≡ p = omega (arith, ints, prices) in
-      ap₂ (λ (x y : ℤ). x +ℤ y) e (to_z-of_z w128 added-on added-on-fits ∙ added-on-is)
+      ap₂ (λ (x y : ℤ). x +ℤ y) e (to_z-of_z w128 added_on added_on_fits ∙ added_on_is)
 
-  raised-within : Within 10240000000000 (p +ℤ (pos t *ℤ (a +ℤ b)))
-  raised-within = within_add 5120000000000 5120000000000 p (pos t *ℤ (a +ℤ b)) prices added-on-within
+  raised_within : Within 10240000000000 (p +ℤ (pos t *ℤ (a +ℤ b)))
+  raised_within = within_add 5120000000000 5120000000000 p (pos t *ℤ (a +ℤ b)) prices added_on_within
 
-  pub raised-fits : SFits w128 raised
-  raised-fits = subst (SFits w128) (sym raised_is) (fits_128 (within_more 10240000000000 680000000000000000 _ (omega arith) raised-within))
+  pub raised_fits : SFits w128 raised
+  raised_fits = subst (SFits w128) (sym raised_is) (fits_128 (within_more 10240000000000 680000000000000000 _ (omega arith) raised_within))
 
-  timed-is : timed ≡ (p +ℤ (pos t *ℤ (a +ℤ b))) *ℤ pos s
-  timed-is = let e : to_z w128 s ≡ pos s = omega (arith, ints) in ap₂ (λ (x y : ℤ). x *ℤ y) (to_z-of_z w128 raised raised-fits ∙ raised_is) e
+  timed_is : timed ≡ (p +ℤ (pos t *ℤ (a +ℤ b))) *ℤ pos s
+  timed_is = let e : to_z w128 s ≡ pos s = omega (arith, ints) in ap₂ (λ (x y : ℤ). x *ℤ y) (to_z-of_z w128 raised raised_fits ∙ raised_is) e
 
-  timed-within : Within 680000000000000000 ((p +ℤ (pos t *ℤ (a +ℤ b))) *ℤ pos s)
-  timed-within =
+  timed_within : Within 680000000000000000 ((p +ℤ (pos t *ℤ (a +ℤ b))) *ℤ pos s)
+  timed_within =
       within_more (10240000000000 * 65536) 680000000000000000 _ (omega arith)
-      (within_mul 10240000000000 65536 (p +ℤ (pos t *ℤ (a +ℤ b))) (pos s) raised-within (within_pos s 65536 (omega arith)))
+      (within_mul 10240000000000 65536 (p +ℤ (pos t *ℤ (a +ℤ b))) (pos s) raised_within (within_pos s 65536 (omega arith)))
 
-  pub timed-fits : SFits w128 timed
-  timed-fits = subst (SFits w128) (sym timed-is) (fits_128 timed-within)
+  pub timed_fits : SFits w128 timed
+  timed_fits = subst (SFits w128) (sym timed_is) (fits_128 timed_within)
 
-  pub part-is : to_z w128 (of_z w128 timed) ≡ (p +ℤ (pos t *ℤ (a +ℤ b))) *ℤ pos s
-  part-is = to_z-of_z w128 timed timed-fits ∙ timed-is
+  pub part_is : to_z w128 (of_z w128 timed) ≡ (p +ℤ (pos t *ℤ (a +ℤ b))) *ℤ pos s
+  part_is = to_z-of_z w128 timed timed_fits ∙ timed_is
 
-  pub part-within : Within 680000000000000000 (to_z w128 (of_z w128 timed))
-  part-within = subst (Within 680000000000000000) (sym part-is) timed-within
+  pub part_within : Within 680000000000000000 (to_z w128 (of_z w128 timed))
+  part_within = subst (Within 680000000000000000) (sym part_is) timed_within

@@ -1,3 +1,4 @@
+pub mod Sums
 pub mod Bounds
 pub mod Weights
 pub mod Prices

@@ -8,7 +8,7 @@ use Rattle.hour.specs.Sound.{total_seconds}
 use Rattle.hour.specs.declared.book.Book.{Book}
 use Rattle.hour.specs.declared.records.Run.{Run}
 use Rattle.weighting.specs.Meanings.{Meaning}
-use Rattle.numbers.specs.Sums.{sum_z}
+use Rattle.real_time.specs.Sums.{sum_z}
 use Rattle.real_time.specs.Weights.{base_view}
 use Rattle.refusals.specs.declared.Refusal.{Refusal}
 use Rattle.refusals.specs.declared.Refusal.TheVariants.{SecondsShort, NoWeight}

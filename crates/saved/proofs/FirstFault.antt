@@ -6,7 +6,7 @@ use Rattle.faults.specs.Faults.{in_line}
 use Rattle.decimals.proofs.Signs.{never}
 use Rattle.cuts.specs.Cuts.{split}
 use Rattle.cuts.specs.Fields.{comma}
-use Rattle.cuts.proofs.Cutting.{split-front}
+use Rattle.cuts.proofs.Cutting.{split_front}
 use Rattle.hour.specs.Hour.{Hour}
 use Rattle.saved_rows.specs.Order.{finished}
 use Rattle.saved_rows.specs.Running.{Place, begin, step, onward, misended}
@@ -44,10 +44,10 @@ open_line p n b bs f false (Err s) is said e =
 
 -- a line with its end
 module _ (p : Place) (n : ℕ) (l m : List ℕ) (ls : List (List ℕ)) (f : Fault) (again : (q : Place) → read_from q (n + 1 + 1) (m ∷ ls) ≡ Err f → From q (n + 1) ls m f) where
-  taken-line : (r : Row) (x : Result Place Spot) → finished p.stage ≡ false → row_of (split comma l) ≡ Ok r → step p n r ≡ x → onward (in_line (n + 1) x) (λ q. read_from q (n + 1 + 1) (m ∷ ls)) ≡ Err f → From p n (m ∷ ls) l f
-  taken-line r (Err s) is form said e =
+  taken_line : (r : Row) (x : Result Place Spot) → finished p.stage ≡ false → row_of (split comma l) ≡ Ok r → step p n r ≡ x → onward (in_line (n + 1) x) (λ q. read_from q (n + 1 + 1) (m ∷ ls)) ≡ Err f → From p n (m ∷ ls) l f
+  taken_line r (Err s) is form said e =
       here p n (m ∷ ls) l f (inr (is, subst (λ (y : Result Row Spot). MatchResult y (λ r. (s : Spot) × (step p n r ≡ Err s) × (f ≡ fault_of n s)) (λ s. f ≡ fault_of n s)) (sym form) (s, said, same_err (fault_of n s) f e)))
-  taken-line r (Ok q) is form said e =
+  taken_line r (Ok q) is form said e =
       let w = again q e in
       let count : n + 1 + length w.0 ≡ n + length (r ∷ w.0) = omega arith in (
         r ∷ w.0,
@@ -59,19 +59,19 @@ module _ (p : Place) (n : ℕ) (l m : List ℕ) (ls : List (List ℕ)) (f : Faul
         subst (λ (k : ℕ). Wrong w.3 k w.2 w.1 f) count w.6,
       )
 
-  ended-line : (t : Bool) (x : Result Row Spot) → finished p.stage ≡ t → row_of (split comma l) ≡ x
+  ended_line : (t : Bool) (x : Result Row Spot) → finished p.stage ≡ t → row_of (split comma l) ≡ x
       → cond t (Err (misended (n + 1))) (onward (in_line (n + 1) x) (λ r. onward (in_line (n + 1) (step p n r)) (λ q. read_from q (n + 1 + 1) (m ∷ ls)))) ≡ Err f → From p n (m ∷ ls) l f
-  ended-line true x is form e = here p n (m ∷ ls) l f (inl (is, same_err (misended (n + 1)) f e))
-  ended-line false (Err s) is form e =
+  ended_line true x is form e = here p n (m ∷ ls) l f (inl (is, same_err (misended (n + 1)) f e))
+  ended_line false (Err s) is form e =
       here p n (m ∷ ls) l f (inr (is, subst (λ (y : Result Row Spot). MatchResult y (λ r. (s : Spot) × (step p n r ≡ Err s) × (f ≡ fault_of n s)) (λ s. f ≡ fault_of n s)) (sym form) (same_err (fault_of n s) f e)))
-  ended-line false (Ok r) is form e = taken-line r (step p n r) is form refl e
+  ended_line false (Ok r) is form e = taken_line r (step p n r) is form refl e
 
 fault_from : (ls : List (List ℕ)) (l : List ℕ) (p : Place) (n : ℕ) (f : Fault) → read_from p (n + 1) (l ∷ ls) ≡ Err f → From p n ls l f
 fault_from [] [] p n f e = ends p n f (finished p.stage) refl e
 fault_from [] (b ∷ bs) p n f e = open_line p n b bs f (finished p.stage) (row_of (split comma (b ∷ bs))) refl refl e
 fault_from (m ∷ ls) l p n f e =
     let before : n + 1 - 1 ≡ n = omega arith in
-    ended-line p n l m ls f (λ q. fault_from ls m q (n + 1) f) (finished p.stage) (row_of (split comma l)) refl refl
+    ended_line p n l m ls f (λ q. fault_from ls m q (n + 1) f) (finished p.stage) (row_of (split comma l)) refl refl
     (sym (ap (λ (k : ℕ). cond (finished p.stage) (Err (misended (n + 1))) (onward (in_line (n + 1) (row_of (split comma l))) (λ r. onward (in_line (n + 1) (step p k r)) (λ q. read_from q (n + 1 + 1) (m ∷ ls))))) before) ∙ e)
 
 -- a text has a first piece
@@ -90,4 +90,4 @@ from_pieces ps l ls t f cut is e =
     }
 
 pub first_fault : FirstFault
-first_fault t f e = from_pieces (split line_end t) _ _ t f refl (split-front line_end t) e
+first_fault t f e = from_pieces (split line_end t) _ _ t f refl (split_front line_end t) e

@@ -4,29 +4,29 @@ use Rattle.faults.specs.declared.Spot.{Spot}
 use Rattle.decimals.specs.Decimals.{decimal_of}
 use Rattle.cuts.specs.Fields.{form_at, status_of, letter_of, ReadLine}
 use Rattle.cuts.specs.FirstWrong.{Located, Locates, is_number, is_status, first_wrong}
-use Rattle.cuts.proofs.Locating.{end_locates, field-locates}
+use Rattle.cuts.proofs.Locating.{end_locates, field_locates}
 use Rattle.saved_rows.specs.declared.row.Row.{Row}
 use Rattle.saved.specs.Lines.{bus_of, lambda_of, constraint_of, outage_of, run_of, end_of, by_first, row_of, pieces}
 use Rattle.saved.specs.declared.line.Line.{Line}
 use Rattle.saved.specs.Forms.{bus_forms, one_number, two_numbers, four_numbers, wrong_behind, wrong_after, wrong_field}
 
 bus_locates : Locates 2 bus_forms bus_of
-bus_locates = field-locates decimal_of 2 (is_number ∷ is_number ∷ is_status ∷ is_number ∷ is_status ∷ is_number ∷ []) _ (λ x0. field-locates decimal_of 3 (is_number ∷ is_status ∷ is_number ∷ is_status ∷ is_number ∷ []) _ (λ x1. field-locates decimal_of 4 (is_status ∷ is_number ∷ is_status ∷ is_number ∷ []) _ (λ x2. field-locates status_of 5 (is_number ∷ is_status ∷ is_number ∷ []) _ (λ x3. field-locates decimal_of 6 (is_status ∷ is_number ∷ []) _ (λ x4. field-locates status_of 7 (is_number ∷ []) _ (λ x5. field-locates decimal_of 8 ([]) _ (λ x6. end_locates 9 _)))))))
+bus_locates = field_locates decimal_of 2 (is_number ∷ is_number ∷ is_status ∷ is_number ∷ is_status ∷ is_number ∷ []) _ (λ x0. field_locates decimal_of 3 (is_number ∷ is_status ∷ is_number ∷ is_status ∷ is_number ∷ []) _ (λ x1. field_locates decimal_of 4 (is_status ∷ is_number ∷ is_status ∷ is_number ∷ []) _ (λ x2. field_locates status_of 5 (is_number ∷ is_status ∷ is_number ∷ []) _ (λ x3. field_locates decimal_of 6 (is_status ∷ is_number ∷ []) _ (λ x4. field_locates status_of 7 (is_number ∷ []) _ (λ x5. field_locates decimal_of 8 ([]) _ (λ x6. end_locates 9 _)))))))
 
 lambda_locates : Locates 2 one_number lambda_of
-lambda_locates = field-locates decimal_of 2 ([]) _ (λ x0. end_locates 3 _)
+lambda_locates = field_locates decimal_of 2 ([]) _ (λ x0. end_locates 3 _)
 
 constraint_locates : Locates 2 two_numbers constraint_of
-constraint_locates = field-locates decimal_of 2 (is_number ∷ []) _ (λ x0. field-locates decimal_of 3 ([]) _ (λ x1. end_locates 4 _))
+constraint_locates = field_locates decimal_of 2 (is_number ∷ []) _ (λ x0. field_locates decimal_of 3 ([]) _ (λ x1. end_locates 4 _))
 
 outage_locates : Locates 2 two_numbers outage_of
-outage_locates = field-locates decimal_of 2 (is_number ∷ []) _ (λ x0. field-locates decimal_of 3 ([]) _ (λ x1. end_locates 4 _))
+outage_locates = field_locates decimal_of 2 (is_number ∷ []) _ (λ x0. field_locates decimal_of 3 ([]) _ (λ x1. end_locates 4 _))
 
 run_locates : Locates 2 four_numbers run_of
-run_locates = field-locates decimal_of 2 (is_number ∷ is_number ∷ is_number ∷ []) _ (λ x0. field-locates decimal_of 3 (is_number ∷ is_number ∷ []) _ (λ x1. field-locates decimal_of 4 (is_number ∷ []) _ (λ x2. field-locates decimal_of 5 ([]) _ (λ x3. end_locates 6 _))))
+run_locates = field_locates decimal_of 2 (is_number ∷ is_number ∷ is_number ∷ []) _ (λ x0. field_locates decimal_of 3 (is_number ∷ is_number ∷ []) _ (λ x1. field_locates decimal_of 4 (is_number ∷ []) _ (λ x2. field_locates decimal_of 5 ([]) _ (λ x3. end_locates 6 _))))
 
 last_locates : Locates 2 one_number end_of
-last_locates = field-locates decimal_of 2 ([]) _ (λ x0. end_locates 3 _)
+last_locates = field_locates decimal_of 2 ([]) _ (λ x0. end_locates 3 _)
 
 -- one case of the choice by letter
 choice : (t : Bool) (forms : List (List ℕ → Bool)) (others : Option (List (List ℕ → Bool))) (ps : List (List ℕ)) (x y : Result Row Spot) → Located (first_wrong 2 forms ps) x → Located (wrong_behind others ps) y → Located (wrong_behind (cond t (Some forms) others) ps) (cond t x y)

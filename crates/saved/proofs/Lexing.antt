@@ -7,7 +7,7 @@ use Rattle.faults.specs.Faults.{fault, in_line}
 use Rattle.decimals.proofs.Signs.{never}
 use Rattle.cuts.specs.Cuts.{split, join}
 use Rattle.cuts.specs.Fields.{comma}
-use Rattle.cuts.proofs.Cutting.{split-append}
+use Rattle.cuts.proofs.Cutting.{split_append}
 use Rattle.hour.specs.Hour.{Hour}
 use Rattle.saved_rows.specs.declared.row.Row.{Row}
 use Rattle.saved_rows.specs.Order.{finished}
@@ -25,7 +25,7 @@ onward_same (Err e) j k h = refl
 
 -- the line of a row is cut off whole
 line_split : (r : Row) (t : List ℕ) → Writable r → split line_end (line_text r ++ t) ≡ join comma (fields_of r) ∷ split line_end t
-line_split r t h = ap (split line_end) (append_assoc (join comma (fields_of r)) (line_end ∷ []) t) ∙ split-append line_end (join comma (fields_of r)) t (line_plain r h)
+line_split r t h = ap (split line_end) (append_assoc (join comma (fields_of r)) (line_end ∷ []) t) ∙ split_append line_end (join comma (fields_of r)) t (line_plain r h)
 
 -- a text of lines is read as its rows
 pub read_rows : (rs : List Row) (p : Place) (n : ℕ) → All Writable rs → read_from p n (split line_end (text_of rs)) ≡ run_rows p n rs
@@ -41,18 +41,18 @@ Written ps p n h = (rs : List Row) × (join line_end ps ≡ text_of rs) × (run_
 
 -- a line that has its end, with what holds of the lines after it
 module _ (l m : List ℕ) (ls : List (List ℕ)) (p : Place) (n : ℕ) (b : Hour) (again : (q : Place) → read_from q (n + 1) (m ∷ ls) ≡ Ok b → Written (m ∷ ls) q (n + 1) b) where
-  step-read : (r : Row) (x : Result Place Spot) → finished p.stage ≡ false → row_of (split comma l) ≡ Ok r → step p (n - 1) r ≡ x → onward (in_line n x) (λ q. read_from q (n + 1) (m ∷ ls)) ≡ Ok b → Written (l ∷ m ∷ ls) p n b
-  step-read r (Ok q) d h k e =
+  step_read : (r : Row) (x : Result Place Spot) → finished p.stage ≡ false → row_of (split comma l) ≡ Ok r → step p (n - 1) r ≡ x → onward (in_line n x) (λ q. read_from q (n + 1) (m ∷ ls)) ≡ Ok b → Written (l ∷ m ∷ ls) p n b
+  step_read r (Ok q) d h k e =
       let more = again q e in (
         r ∷ more.0,
         (λ i. (line_row l r h).0 i ++ (line_end ∷ more.1 i)) ∙ sym (append_assoc (join comma (fields_of r)) (line_end ∷ []) (text_of more.0)),
         cond-false _ _ _ d ∙ ap (λ x. onward (in_line n x) (λ q. run_rows q (n + 1) more.0)) k ∙ more.2,
       )
-  step-read r (Err f) d h k e = never b (fault f.why n f.field) (sym e)
+  step_read r (Err f) d h k e = never b (fault f.why n f.field) (sym e)
 
   line_read : (t : Bool) (x : Result Row Spot) → finished p.stage ≡ t → row_of (split comma l) ≡ x → cond t (Err (misended n)) (onward (in_line n x) (λ r. onward (in_line n (step p (n - 1) r)) (λ q. read_from q (n + 1) (m ∷ ls)))) ≡ Ok b → Written (l ∷ m ∷ ls) p n b
   line_read true x d h e = never b (misended n) (sym e)
-  line_read false (Ok r) d h e = step-read r (step p (n - 1) r) d h refl e
+  line_read false (Ok r) d h e = step_read r (step p (n - 1) r) d h refl e
   line_read false (Err f) d h e = never b (fault f.why n f.field) (sym e)
 
 no_end : (c : ℕ) (cs : List ℕ) (p : Place) (n : ℕ) (b : Hour) (t : Bool) (x : Result Row Spot) → cond t (Err (misended n)) (onward (in_line n x) (λ _. Err (unended n))) ≡ Ok b → Written ((c ∷ cs) ∷ []) p n b

@@ -1,7 +1,7 @@
 -- Saved texts and hours are one to one.
 use Rattle.std.proofs.Common.{sym, ap, ◌∙◌}
 use Rattle.cuts.specs.Cuts.{split}
-use Rattle.cuts.proofs.Cutting.{join-split}
+use Rattle.cuts.proofs.Cutting.{join_split}
 use Rattle.hour.specs.Hour.{entries}
 use Rattle.saved_rows.specs.Rows.{all_rows}
 use Rattle.saved_rows.specs.Running.{begin}
@@ -20,4 +20,4 @@ pub only_saved : OnlySaved
 unfolding saved_text
 only_saved t h e =
     let w = rows_read (split line_end t) begin 1 h e in
-    sym (join-split line_end t) ∙ w.1 ∙ ap text_of (laws.only_saved w.0 h w.2)
+    sym (join_split line_end t) ∙ w.1 ∙ ap text_of (laws.only_saved w.0 h w.2)

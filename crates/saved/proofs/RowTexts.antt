@@ -12,8 +12,8 @@ use Rattle.decimals.specs.Canonical.{FewDigits}
 use Rattle.decimals.proofs.Signs.{own, never, decimal_signed, signed_decimal}
 use Rattle.cuts.specs.Cuts.{split, join}
 use Rattle.cuts.specs.Fields.{comma, form_at, not_status, status_of, number, status, end}
-use Rattle.cuts.proofs.Cutting.{Plain, split-join, join-split}
-use Rattle.cuts.proofs.Taking.{taken-field, ended}
+use Rattle.cuts.proofs.Cutting.{Plain, split_join, join_split}
+use Rattle.cuts.proofs.Taking.{taken_field, ended}
 use Rattle.saved_rows.specs.Laws.{Writable}
 use Rattle.saved_rows.specs.declared.row.Row.{Row}
 use Rattle.saved_rows.specs.declared.row.Row.TheVariants as row
@@ -72,12 +72,12 @@ line_plain r h = join_plain (fields_of r) (fields_plain line_end r (omega arith)
 
 -- the fields of a line come apart again
 rejoined : (r : Row) → Writable r → split comma (join comma (fields_of r)) ≡ fields_of r
-rejoined (row.Bus b) h = split-join comma _ _ (fields_plain comma (row.Bus b) (omega arith) h)
-rejoined (row.Lambda z) h = split-join comma _ _ (fields_plain comma (row.Lambda z) (omega arith) h)
-rejoined (row.Constraint k p) h = split-join comma _ _ (fields_plain comma (row.Constraint k p) (omega arith) h)
-rejoined (row.Outage k b) h = split-join comma _ _ (fields_plain comma (row.Outage k b) (omega arith) h)
-rejoined (row.Run k s a r) h = split-join comma _ _ (fields_plain comma (row.Run k s a r) (omega arith) h)
-rejoined (row.End n) h = split-join comma _ _ (fields_plain comma (row.End n) (omega arith) h)
+rejoined (row.Bus b) h = split_join comma _ _ (fields_plain comma (row.Bus b) (omega arith) h)
+rejoined (row.Lambda z) h = split_join comma _ _ (fields_plain comma (row.Lambda z) (omega arith) h)
+rejoined (row.Constraint k p) h = split_join comma _ _ (fields_plain comma (row.Constraint k p) (omega arith) h)
+rejoined (row.Outage k b) h = split_join comma _ _ (fields_plain comma (row.Outage k b) (omega arith) h)
+rejoined (row.Run k s a r) h = split_join comma _ _ (fields_plain comma (row.Run k s a r) (omega arith) h)
+rejoined (row.End n) h = split_join comma _ _ (fields_plain comma (row.End n) (omega arith) h)
 
 status_text_back : (b : Bool) → status_of (status_text b) ≡ Ok b
 status_text_back false = refl
@@ -107,7 +107,7 @@ row_line r h = ap row_of (rejoined r h) ∙ row_fields r h
 -- a number that was read
 number_inv : (f : ℕ) (k : ℤ → List (List ℕ) → Result Row Spot) (ps : List (List ℕ)) (r : Row) → number f k ps ≡ Ok r → (z : ℤ) × (qs : List (List ℕ)) × (ps ≡ signed z ∷ qs) × FewDigits z × (k z qs ≡ Ok r)
 number_inv f k ps r e =
-    let t = taken-field decimal_of f k ps r e in
+    let t = taken_field decimal_of f k ps r e in
     let d = signed_decimal t.1 t.0 t.4 in
     (t.0, t.2, t.3 ∙ ap (λ p. p ∷ t.2) d.0, d.1, t.5)
 
@@ -125,7 +125,7 @@ text_status (c ∷ []) b e = ⊎_elim
 -- a status that was read
 status_inv : (f : ℕ) (k : Bool → List (List ℕ) → Result Row Spot) (ps : List (List ℕ)) (r : Row) → status f k ps ≡ Ok r → (b : Bool) × (qs : List (List ℕ)) × (ps ≡ status_text b ∷ qs) × (k b qs ≡ Ok r)
 status_inv f k ps r e =
-    let t = taken-field status_of f k ps r e in
+    let t = taken_field status_of f k ps r e in
     (t.0, t.2, t.3 ∙ ap (λ p. p ∷ t.2) (text_status t.1 t.0 t.4), t.5)
 
 -- the pieces are the fields of the row
@@ -201,4 +201,4 @@ row_inv ((b ∷ c ∷ bs) ∷ ps) r e = never r (form_at 1) (sym e)
 
 -- and nothing else is read
 pub line_row : (l : List ℕ) (r : Row) → row_of (split comma l) ≡ Ok r → (l ≡ join comma (fields_of r)) × Writable r
-line_row l r e = let p = row_inv (split comma l) r e in (sym (join-split comma l) ∙ ap (join comma) p.0, p.1)
+line_row l r e = let p = row_inv (split comma l) r e in (sym (join_split comma l) ∙ ap (join comma) p.0, p.1)

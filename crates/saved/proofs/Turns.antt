@@ -7,7 +7,7 @@ use Rattle.faults.specs.declared.Fault.{Fault}
 use Rattle.faults.specs.Faults.{fault, in_line}
 use Rattle.cuts.specs.Cuts.{split, front, after, split_rest}
 use Rattle.cuts.specs.Fields.{comma}
-use Rattle.cuts.proofs.Cutting.{split-front}
+use Rattle.cuts.proofs.Cutting.{split_front}
 use Rattle.hour.specs.Hour.{Hour}
 use Rattle.saved_rows.specs.declared.row.Row.{Row}
 use Rattle.saved_rows.specs.declared.stage.Stage.{Stage}
@@ -29,7 +29,7 @@ in_turn p n l o = cond (finished p.stage) (Err (misended n)) (onward (in_line n 
 pub with_end : (p : Place) (n : ℕ) (l t : List ℕ) → read_from p n (l ∷ split line_end t) ≡ in_turn p n l (Some t)
 with_end p n l t =
     subst (λ (x : List (List ℕ)). read_from p n (l ∷ x) ≡ cond (finished p.stage) (Err (misended n)) (onward (in_line n (row_of (split comma l))) (λ r. onward (in_line n (step p (n - 1) r)) (λ q. read_from q (n + 1) x))))
-    (sym (split-front line_end t)) refl
+    (sym (split_front line_end t)) refl
 
 some_front : (c : ℕ) (cs : List ℕ) → after line_end (c ∷ cs) ≡ None → front line_end (c ∷ cs) ≡ c ∷ front line_end cs
 some_front c cs e = ⊎_elim
@@ -39,15 +39,15 @@ some_front c cs e = ⊎_elim
 
 pub unroll : (p : Place) (n : ℕ) (s : List ℕ) (o : Option (List ℕ)) → 0 < length s → after line_end s ≡ o → read_from p n (split line_end s) ≡ in_turn p n (front line_end s) o
 unroll p n [] o h e = absurd (omega arith)
-unroll p n (c ∷ cs) None h e = ap (read_from p n) (split-front line_end (c ∷ cs) ∙ ap (λ x. front line_end (c ∷ cs) ∷ split_rest line_end x) e) ∙ subst (λ (l : List ℕ). read_last p n l ≡ in_turn p n l None) (sym (some_front c cs e)) refl
-unroll p n (c ∷ cs) (Some t) h e = ap (read_from p n) (split-front line_end (c ∷ cs) ∙ ap (λ x. front line_end (c ∷ cs) ∷ split_rest line_end x) e) ∙ with_end p n (front line_end (c ∷ cs)) t
+unroll p n (c ∷ cs) None h e = ap (read_from p n) (split_front line_end (c ∷ cs) ∙ ap (λ x. front line_end (c ∷ cs) ∷ split_rest line_end x) e) ∙ subst (λ (l : List ℕ). read_last p n l ≡ in_turn p n l None) (sym (some_front c cs e)) refl
+unroll p n (c ∷ cs) (Some t) h e = ap (read_from p n) (split_front line_end (c ∷ cs) ∙ ap (λ x. front line_end (c ∷ cs) ∷ split_rest line_end x) e) ∙ with_end p n (front line_end (c ∷ cs)) t
 
 module _ (p : Place) (n : ℕ) (l : List ℕ) (o : Option (List ℕ)) where
-  pub turn-done : finished p.stage ≡ true → in_turn p n l o ≡ Err (misended n)
-  turn-done d = cond-true _ _ _ d
+  pub turn_done : finished p.stage ≡ true → in_turn p n l o ≡ Err (misended n)
+  turn_done d = cond-true _ _ _ d
 
-  pub turn-row-err : finished p.stage ≡ false → (f : Fault) → Err f ≡ in_line n (row_of (split comma l)) → in_turn p n l o ≡ Err f
-  turn-row-err d f e = cond-false _ _ _ d ∙ ap (λ x. onward x (after_row p n o)) (sym e)
+  pub turn_row_err : finished p.stage ≡ false → (f : Fault) → Err f ≡ in_line n (row_of (split comma l)) → in_turn p n l o ≡ Err f
+  turn_row_err d f e = cond-false _ _ _ d ∙ ap (λ x. onward x (after_row p n o)) (sym e)
 
   pub turn_on : finished p.stage ≡ false → (r : Row) → Ok r ≡ in_line n (row_of (split comma l)) → in_turn p n l o ≡ after_row p n o r
   turn_on d r e = cond-false _ _ _ d ∙ ap (λ x. onward x (after_row p n o)) (sym e)
@@ -69,20 +69,20 @@ module _ (p : Place) (n : ℕ) (s : List ℕ) (some : false ≡ eqb (length s) 0
   longer = grind (arith, nat_tests)
 
   pub at_done : (o : Option (List ℕ)) → after line_end s ≡ o → true ≡ finished p.stage → read_from p n (split line_end s) ≡ Err (misended n)
-  at_done o e d = unroll p n s o longer e ∙ turn-done p n (front line_end s) o (sym d)
+  at_done o e d = unroll p n s o longer e ∙ turn_done p n (front line_end s) o (sym d)
 
-  pub on-err : (o : Option (List ℕ)) (l : List ℕ) (q : Result Row Spot) (f : Fault) → after line_end s ≡ o → false ≡ finished p.stage → l ≡ front line_end s → q ≡ row_of (split comma l) → Err f ≡ in_line n q → read_from p n (split line_end s) ≡ Err f
-  on-err o l q f e d h k g = unroll p n s o longer e ∙ turn-row-err p n (front line_end s) o (sym d) f (g ∙ ap (in_line n) (k ∙ ap (λ x. row_of (split comma x)) h))
+  pub on_err : (o : Option (List ℕ)) (l : List ℕ) (q : Result Row Spot) (f : Fault) → after line_end s ≡ o → false ≡ finished p.stage → l ≡ front line_end s → q ≡ row_of (split comma l) → Err f ≡ in_line n q → read_from p n (split line_end s) ≡ Err f
+  on_err o l q f e d h k g = unroll p n s o longer e ∙ turn_row_err p n (front line_end s) o (sym d) f (g ∙ ap (in_line n) (k ∙ ap (λ x. row_of (split comma x)) h))
 
   pub on_row : (o : Option (List ℕ)) (l : List ℕ) (q : Result Row Spot) (r : Row) → after line_end s ≡ o → false ≡ finished p.stage → l ≡ front line_end s → q ≡ row_of (split comma l) → Ok r ≡ in_line n q → read_from p n (split line_end s) ≡ after_row p n o r
   on_row o l q r e d h k g = unroll p n s o longer e ∙ turn_on p n (front line_end s) o (sym d) r (g ∙ ap (in_line n) (k ∙ ap (λ x. row_of (split comma x)) h))
 
 -- after a step that the code took
 module _ (p : Place) (n : ℕ) (t : List ℕ) (r : Row) (b : Hour) where
-  pub after-err : (q : Result Stage Spot) (f : Fault) → Takes (step p (n - 1) r) p.hour b q → Err f ≡ in_line n q → after_row p n (Some t) r ≡ Err f
-  after-err (Ok s) f h e = let z : ◌≡◌ {A = ℕ} 0 1 = cc in absurd (omega arith)
-  after-err (Err d) f h e = let z : f ≡ fault d.why n d.field = cc in ap (λ x. onward (in_line n x) (λ q. read_from q (n + 1) (split line_end t))) h.0 ∙ ap Err (sym z)
+  pub after_err : (q : Result Stage Spot) (f : Fault) → Takes (step p (n - 1) r) p.hour b q → Err f ≡ in_line n q → after_row p n (Some t) r ≡ Err f
+  after_err (Ok s) f h e = let z : ◌≡◌ {A = ℕ} 0 1 = cc in absurd (omega arith)
+  after_err (Err d) f h e = let z : f ≡ fault d.why n d.field = cc in ap (λ x. onward (in_line n x) (λ q. read_from q (n + 1) (split line_end t))) h.0 ∙ ap Err (sym z)
 
-  pub after-ok : (q : Result Stage Spot) (s : Stage) → Takes (step p (n - 1) r) p.hour b q → Ok s ≡ in_line n q → after_row p n (Some t) r ≡ read_from (place s b) (n + 1) (split line_end t)
-  after-ok (Ok u) s h e = let z : u ≡ s = cc in ap (λ x. onward (in_line n x) (λ q. read_from q (n + 1) (split line_end t))) h ∙ ap (λ x. read_from (place x b) (n + 1) (split line_end t)) z
-  after-ok (Err d) s h e = let z : ◌≡◌ {A = ℕ} 0 1 = cc in absurd (omega arith)
+  pub after_ok : (q : Result Stage Spot) (s : Stage) → Takes (step p (n - 1) r) p.hour b q → Ok s ≡ in_line n q → after_row p n (Some t) r ≡ read_from (place s b) (n + 1) (split line_end t)
+  after_ok (Ok u) s h e = let z : u ≡ s = cc in ap (λ x. onward (in_line n x) (λ q. read_from q (n + 1) (split line_end t))) h ∙ ap (λ x. read_from (place x b) (n + 1) (split line_end t)) z
+  after_ok (Err d) s h e = let z : ◌≡◌ {A = ℕ} 0 1 = cc in absurd (omega arith)

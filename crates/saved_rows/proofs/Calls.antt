@@ -90,36 +90,36 @@ module _ (h : Hour) (r : BusRow) (ok : is_ok (bus_given r) ≡ true) where
   abbrev v : Values r g
   v = (values r ok).1
 
-  bus-wide : up_to (wide r.bus) 255 ≡ Some g.bus
-  bus-wide = wide_is r.bus 255 g.bus (omega arith) v.bus
+  bus_wide : up_to (wide r.bus) 255 ≡ Some g.bus
+  bus_wide = wide_is r.bus 255 g.bus (omega arith) v.bus
 
   put_is : bus_put h (bus_given r) ≡ unless 3 HubBusFull (is_full h g.bus g.entry.hub_bus) (Ok (with_bus h g.bus g.entry))
   put_is = ap (bus_put h) v.is
 
-  placed-is : placed h (wide r.bus) (wide r.hub_bus) (wide r.zone) ≡ refuse_if (is_full h g.bus g.entry.hub_bus) HubBusFull (Ok (with_bus h g.bus (placed_in (bus_at h g.bus) g.entry.hub_bus g.entry.zone)))
-  placed-is =
-      given_is (up_to (wide r.bus) 255) BusOutside _ g.bus bus-wide
+  placed_is : placed h (wide r.bus) (wide r.hub_bus) (wide r.zone) ≡ refuse_if (is_full h g.bus g.entry.hub_bus) HubBusFull (Ok (with_bus h g.bus (placed_in (bus_at h g.bus) g.entry.hub_bus g.entry.zone)))
+  placed_is =
+      given_is (up_to (wide r.bus) 255) BusOutside _ g.bus bus_wide
       ∙ given_is (up_to (wide r.hub_bus) 155) HubBusOutside _ g.entry.hub_bus (wide_is r.hub_bus 155 _ (omega arith) v.hub)
       ∙ given_is (up_to (wide r.zone) 16) ZoneOutside _ g.entry.zone (wide_is r.zone 16 _ (omega arith) v.zone)
 
-  status-is : (x : Hour) (m : Market) (l : Bool) → status_set x (wide r.bus) m l ≡ Ok (with_bus x g.bus (with_status (bus_at x g.bus) m l))
-  status-is x m l = given_is (up_to (wide r.bus) 255) BusOutside _ g.bus bus-wide
+  status_is : (x : Hour) (m : Market) (l : Bool) → status_set x (wide r.bus) m l ≡ Ok (with_bus x g.bus (with_status (bus_at x g.bus) m l))
+  status_is x m l = given_is (up_to (wide r.bus) 255) BusOutside _ g.bus bus_wide
 
   load_is : (x : Hour) (m : Market) (z : ℤ) (n : ℕ) → up_to z 10000 ≡ Some n → load_set x (wide r.bus) m (wide z) ≡ Ok (with_bus x g.bus (with_load (bus_at x g.bus) m n))
-  load_is x m z n e = given_is (up_to (wide r.bus) 255) BusOutside _ g.bus bus-wide ∙ given_is (up_to (wide z) 10000) LoadOutside _ n (wide_is z 10000 n (omega arith) e)
+  load_is x m z n e = given_is (up_to (wide r.bus) 255) BusOutside _ g.bus bus_wide ∙ given_is (up_to (wide z) 10000) LoadOutside _ n (wide_is z 10000 n (omega arith) e)
 
   -- the hub bus is full, and the book as it was
   pub full : (h₁ : Hour) (s : Spot) (q : Result (Unit {0}) Refusal) → Did (placed h (wide r.bus) (wide r.hub_bus) (wide r.zone)) h h₁ q → (s.field ≡ 3) × IsErrAnd q (λ e. s.why ≡ Value e)
       → (bus_put h (bus_given r) ≡ Err s) × (h₁ ≡ h)
   full h₁ s q d at =
-      let w = by-test (is_full h g.bus g.entry.hub_bus) (with_bus h g.bus (placed_in (bus_at h g.bus) g.entry.hub_bus g.entry.zone)) (Ok (with_bus h g.bus g.entry)) (subst (λ (o : Outcome). Did o h h₁ q) placed-is d) in
+      let w = by_test (is_full h g.bus g.entry.hub_bus) (with_bus h g.bus (placed_in (bus_at h g.bus) g.entry.hub_bus g.entry.zone)) (Ok (with_bus h g.bus g.entry)) (subst (λ (o : Outcome). Did o h h₁ q) placed_is d) in
       (put_is ∙ w.0, w.1)
     where
-      by-test : (t : Bool) (x : Hour) (y : Result Hour Spot) → Did (refuse_if t HubBusFull (Ok x)) h h₁ q → (unless 3 HubBusFull t y ≡ Err s) × (h₁ ≡ h)
-      by-test true x y d =
+      by_test : (t : Bool) (x : Hour) (y : Result Hour Spot) → Did (refuse_if t HubBusFull (Ok x)) h h₁ q → (unless 3 HubBusFull t y ≡ Err s) × (h₁ ≡ h)
+      by_test true x y d =
           let why : s.why ≡ Value HubBusFull = subst (λ (p : Result (Unit {0}) Refusal). IsErrAnd p (λ e. s.why ≡ Value e)) d.0 at.1 in
           (ap Err (λ i. record { why = sym why i; field = sym at.0 i }), d.2)
-      by-test false x y d = absurd (subst (λ (p : Result (Unit {0}) Refusal). IsErrAnd p (λ e. s.why ≡ Value e)) d.0 at.1)
+      by_test false x y d = absurd (subst (λ (p : Result (Unit {0}) Refusal). IsErrAnd p (λ e. s.why ≡ Value e)) d.0 at.1)
 
   -- the hub bus has room, and the calls give the bus its record
   pub written : (h₁ h₂ h₃ h₄ h₅ : Hour) (q₁ q₂ q₃ q₄ q₅ : Result (Unit {0}) Refusal) (q : Result (Unit {0}) Spot) → length h.buses ≡ 256 → q₁ ≡ Ok tt
@@ -135,17 +135,17 @@ module _ (h : Hour) (r : BusRow) (ok : is_ok (bus_given r) ≡ true) where
       let b = g.bus in
       let lt : b < length h.buses = omega (arith, up_to_low r.bus 255 b v.bus) in
       let x₁ = placed_in (bus_at h b) g.entry.hub_bus g.entry.zone in
-      let w = by-test (is_full h b g.entry.hub_bus) (with_bus h b x₁) (Ok (with_bus h b g.entry)) (subst (λ (o : Outcome). Did o h h₁ q₁) placed-is d₁) in
-      let e₂ = again h h₁ h₂ b x₁ (λ x. with_status x DayAhead r.day_ahead_live) lt w.1 (did_ok _ _ h₁ h₂ q₂ (status-is h₁ DayAhead r.day_ahead_live) d₂).1 in
+      let w = by_test (is_full h b g.entry.hub_bus) (with_bus h b x₁) (Ok (with_bus h b g.entry)) (subst (λ (o : Outcome). Did o h h₁ q₁) placed_is d₁) in
+      let e₂ = again h h₁ h₂ b x₁ (λ x. with_status x DayAhead r.day_ahead_live) lt w.1 (did_ok _ _ h₁ h₂ q₂ (status_is h₁ DayAhead r.day_ahead_live) d₂).1 in
       let e₃ = again h h₂ h₃ b _ (λ x. with_load x DayAhead g.entry.day_ahead.load) lt e₂ (did_ok _ _ h₂ h₃ q₃ (load_is h₂ DayAhead r.day_ahead_load g.entry.day_ahead.load v.day) d₃).1 in
-      let e₄ = again h h₃ h₄ b _ (λ x. with_status x RealTime r.real_time_live) lt e₃ (did_ok _ _ h₃ h₄ q₄ (status-is h₃ RealTime r.real_time_live) d₄).1 in
+      let e₄ = again h h₃ h₄ b _ (λ x. with_status x RealTime r.real_time_live) lt e₃ (did_ok _ _ h₃ h₄ q₄ (status_is h₃ RealTime r.real_time_live) d₄).1 in
       let e₅ = again h h₄ h₅ b _ (λ x. with_load x RealTime g.entry.real_time.load) lt e₄ (did_ok _ _ h₄ h₅ q₅ (load_is h₄ RealTime r.real_time_load g.entry.real_time.load v.real) d₅).1 in
       let last = (did_ok _ _ h₄ h₅ q₅ (load_is h₄ RealTime r.real_time_load g.entry.real_time.load v.real) d₅).0 in
       ends q (put_is ∙ w.0 ∙ ap Ok (sym e₅)) last at
     where
-      by-test : (t : Bool) (x : Hour) (y : Result Hour Spot) → Did (refuse_if t HubBusFull (Ok x)) h h₁ q₁ → (unless 3 HubBusFull t y ≡ y) × (h₁ ≡ x)
-      by-test true x y d = let z : Err HubBusFull ≡ Ok tt = sym d.0 ∙ granted in let n : ◌≡◌ {A = ℕ} 0 1 = cc in absurd (omega arith)
-      by-test false x y d = (refl, d.1)
+      by_test : (t : Bool) (x : Hour) (y : Result Hour Spot) → Did (refuse_if t HubBusFull (Ok x)) h h₁ q₁ → (unless 3 HubBusFull t y ≡ y) × (h₁ ≡ x)
+      by_test true x y d = let z : Err HubBusFull ≡ Ok tt = sym d.0 ∙ granted in let n : ◌≡◌ {A = ℕ} 0 1 = cc in absurd (omega arith)
+      by_test false x y d = (refl, d.1)
 
       ends : (p : Result (Unit {0}) Spot) → bus_put h (bus_given r) ≡ Ok h₅ → q₅ ≡ Ok tt → MatchResult p (λ x. q₅ ≡ Ok x) (λ s. (s.field ≡ 8) × IsErrAnd q₅ (λ e. s.why ≡ Value e)) → Enters (bus_put h (bus_given r)) h h₅ p
       ends (Ok x) is last c = is

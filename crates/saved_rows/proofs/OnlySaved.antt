@@ -30,7 +30,7 @@ use Rattle.saved_rows.specs.Running.{Place, place, begin, onward, run_rows, step
 use Rattle.saved_rows.specs.Laws.{OnlySaved}
 use Rattle.saved_rows.proofs.Calls.{Values, values, valued_is}
 use Rattle.saved_rows.proofs.Marks.{outages_none, outages_grow}
-use Rattle.saved_rows.proofs.Tables.{From, from_later, from_set, from_replicate, replicate_length, indexed-none, indexed-grow}
+use Rattle.saved_rows.proofs.Tables.{From, from_later, from_set, from_replicate, replicate_length, indexed_none, indexed_grow}
 
 never : {X A E : Type 0} (x : A) (e : E) → ◌≡◌ {A = Result A E} (Err e) (Ok x) → X
 never x e p = let z : ◌≡◌ {A = ℕ} 0 1 = cc in absurd (omega arith)
@@ -175,10 +175,10 @@ record Grown (h : Hour) (r : Row) (s : Stage) (h' : Hour) : Type 0 where
   going : finished s ≡ false
 
 no_constraints : (h : Hour) → From None h.constraints 0 → indexed constraint_rows 0 h.constraints ≡ []
-no_constraints h none = indexed-none constraint_rows None (λ k. refl) h.constraints 0 none
+no_constraints h none = indexed_none constraint_rows None (λ k. refl) h.constraints 0 none
 
 no_runs : (h : Hour) → From None h.runs 0 → indexed run_row 0 h.runs ≡ []
-no_runs h none = indexed-none run_row None (λ k. refl) h.runs 0 none
+no_runs h none = indexed_none run_row None (λ k. refl) h.runs 0 none
 
 -- the same line with its numbers written otherwise, and the same hour
 moved : (h : Hour) (t : Stage) (c d : Hour) (r q : Row) → r ≡ q → c ≡ d → Grown h q t c → Grown h r t d
@@ -203,7 +203,7 @@ core_bus h s t k x ok a hk full f =
     let entry : bus_rows (0 + k) x ≡ bus_rows (0 + k) (get_or h.buses k no_bus) ++ (r ∷ []) =
     ap (λ (m : ℕ). bus_rows m x) at-k ∙ cond-false (blank_bus (bus_numbers k x)) [] (r ∷ []) full ∙ ap (λ (y : Bus). bus_rows (0 + k) y ++ (r ∷ [])) (sym (w.1.0 k (omega arith))) in
     record {
-      more = ap (λ (l : List Row). l ++ (lambda_rows h.lambda ++ (indexed constraint_rows 0 h.constraints ++ indexed run_row 0 h.runs))) (indexed-grow bus_rows no_bus (λ m. refl) h.buses 0 k x (r ∷ []) long later entry) ∙ grow_front (indexed bus_rows 0 h.buses) (r ∷ []) _ tail;
+      more = ap (λ (l : List Row). l ++ (lambda_rows h.lambda ++ (indexed constraint_rows 0 h.constraints ++ indexed run_row 0 h.runs))) (indexed_grow bus_rows no_bus (λ m. refl) h.buses 0 k x (r ∷ []) long later entry) ∙ grow_front (indexed bus_rows 0 h.buses) (r ∷ []) _ tail;
       sized = record { buses = length-set h.buses k x ∙ ok.buses; constraints = ok.constraints; runs = ok.runs };
       ahead = subst (λ (y : Stage). Ahead y (with_bus h k x)) w.0 (k, refl, (from_set no_bus x h.buses k later, w.1.1, w.1.2));
       going = ap finished (sym w.0);
@@ -280,7 +280,7 @@ core_constraint h s t k p ok a hk f =
     ap (λ (m : ℕ). constraint_rows m (Some x)) at-k ∙ ap (λ (l : List Row). r ∷ l) (outages_none k (member no_words) 256 (λ j l. no_members j l)) ∙ ap (λ (y : Option Constraint). constraint_rows (0 + k) y ++ (r ∷ [])) (sym (w.1 k (omega arith))) in
     subst (λ (c : Option Constraint). Grown h r t (with_constraint h k (Some (record { shadow_price = p; out = out_of c })))) (sym (w.1 k (omega arith)))
     (record {
-      more = ap (λ (l : List Row). indexed bus_rows 0 h.buses ++ (lambda_rows h.lambda ++ (l ++ indexed run_row 0 h.runs))) (indexed-grow constraint_rows None (λ m. refl) h.constraints 0 k (Some x) (r ∷ []) long later entry)
+      more = ap (λ (l : List Row). indexed bus_rows 0 h.buses ++ (lambda_rows h.lambda ++ (l ++ indexed run_row 0 h.runs))) (indexed_grow constraint_rows None (λ m. refl) h.constraints 0 k (Some x) (r ∷ []) long later entry)
           ∙ grow_middle (indexed bus_rows 0 h.buses) (lambda_rows h.lambda) (indexed constraint_rows 0 h.constraints) (r ∷ []) (indexed run_row 0 h.runs) (no_runs h w.2);
       sized = record { buses = ok.buses; constraints = length-set h.constraints k (Some x) ∙ ok.constraints; runs = ok.runs };
       ahead = subst (λ (y : Stage). Ahead y (with_constraint h k (Some x))) w.0
@@ -321,7 +321,7 @@ core_outage h s t k m ok a hk hm f =
       x,
       v.posted,
       record {
-        more = ap (λ (l : List Row). indexed bus_rows 0 h.buses ++ (lambda_rows h.lambda ++ (l ++ indexed run_row 0 h.runs))) (indexed-grow constraint_rows None (λ j. refl) h.constraints 0 k (Some new) (r ∷ []) long v.later entry)
+        more = ap (λ (l : List Row). indexed bus_rows 0 h.buses ++ (lambda_rows h.lambda ++ (l ++ indexed run_row 0 h.runs))) (indexed_grow constraint_rows None (λ j. refl) h.constraints 0 k (Some new) (r ∷ []) long v.later entry)
             ∙ grow_middle (indexed bus_rows 0 h.buses) (lambda_rows h.lambda) (indexed constraint_rows 0 h.constraints) (r ∷ []) (indexed run_row 0 h.runs) (no_runs h v.runs);
         sized = record { buses = ok.buses; constraints = length-set h.constraints k (Some new) ∙ ok.constraints; runs = ok.runs };
         ahead = subst (λ (y : Stage). Ahead y (with_constraint h k (Some new))) w.0 (
@@ -372,7 +372,7 @@ core_run h s t k x ok a hk f =
     let entry : run_row (0 + k) (Some x) ≡ run_row (0 + k) (get_or h.runs k None) ++ (r ∷ []) =
     ap (λ (m : ℕ). run_row m (Some x)) at-k ∙ ap (λ (y : Option Run). run_row (0 + k) y ++ (r ∷ [])) (sym (w.1 k (omega arith))) in
     record {
-      more = ap (λ (l : List Row). indexed bus_rows 0 h.buses ++ (lambda_rows h.lambda ++ (indexed constraint_rows 0 h.constraints ++ l))) (indexed-grow run_row None (λ m. refl) h.runs 0 k (Some x) (r ∷ []) long later entry)
+      more = ap (λ (l : List Row). indexed bus_rows 0 h.buses ++ (lambda_rows h.lambda ++ (indexed constraint_rows 0 h.constraints ++ l))) (indexed_grow run_row None (λ m. refl) h.runs 0 k (Some x) (r ∷ []) long later entry)
           ∙ grow_back (indexed bus_rows 0 h.buses) (lambda_rows h.lambda) (indexed constraint_rows 0 h.constraints) (indexed run_row 0 h.runs) (r ∷ []);
       sized = record { buses = ok.buses; constraints = ok.constraints; runs = length-set h.runs k (Some x) ∙ ok.runs };
       ahead = subst (λ (y : Stage). Ahead y (with_run h k (Some x))) w.0 (k, refl, from_set None (Some x) h.runs k later);
@@ -468,7 +468,7 @@ only : (nb : List Bus) (nc : List (Option Constraint)) (nr : List (Option Run)) 
     → (rs : List Row) (c : Hour) → run_rows (place stage.Start (record { buses = nb; lambda = None; constraints = nc; runs = nr })) 1 rs ≡ Ok c → rs ≡ all_rows c
 only nb nc nr lo lc lr fo fc fr rs c e =
     let h : Hour = record { buses = nb; lambda = None; constraints = nc; runs = nr } in
-    let none : rows h ≡ [] = (λ i. indexed-none bus_rows no_bus (λ k. refl) nb 0 fo i ++ (no_constraints h fc i ++ no_runs h fr i)) in
+    let none : rows h ≡ [] = (λ i. indexed_none bus_rows no_bus (λ k. refl) nb 0 fo i ++ (no_constraints h fc i ++ no_runs h fr i)) in
     let first : 1 ≡ length (rows h) + 1 = sym (ap (λ (l : List Row). length l + 1) none) in
     sym (ap (λ (l : List Row). l ++ rs) none) ∙ rows_are rs c 1 h stage.Start (record { buses = lo; constraints = lc; runs = lr }) (fo, refl, (fc, fr)) refl first e
 

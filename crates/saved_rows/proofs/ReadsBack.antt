@@ -226,8 +226,8 @@ module _ (bs : List Bus) (l : Option ℤ) (t : List (Option Constraint)) (rs : L
   abbrev marks : List ℕ → Hour
   marks ws = record { buses = bs; lambda = l; constraints = set t k (Some (record { shadow_price = p; out = ws })); runs = rs }
 
-  enter-mark : (ws : List ℕ) (n j : ℕ) → j < 256 → enter (marks ws) n (row.Outage (pos k) (pos j)) ≡ Ok (marks (marked ws j true))
-  enter-mark ws n j hj =
+  enter_mark : (ws : List ℕ) (n j : ℕ) → j < 256 → enter (marks ws) n (row.Outage (pos k) (pos j)) ≡ Ok (marks (marked ws j true))
+  enter_mark ws n j hj =
       let x : Constraint = record { shadow_price = p; out = ws } in
       let y : Constraint = record { shadow_price = p; out = marked ws j true } in
       valued_is 2 ConstraintOutside (up_to (pos k) 31) _ k (up_is k 31 (omega arith))
@@ -240,12 +240,12 @@ module _ (bs : List Bus) (l : Option ℤ) (t : List (Option Constraint)) (rs : L
   Marked target n = (u : Stage) × (ws : List ℕ) × QMark k n u × (four_words ws ≡ true) × SetOf (λ j. ltb j n && member target j) ws
       × Runs (place (stage.Constraint (pos k)) (marks no_words)) (outage_rows k (member target) n) (place u (marks ws))
 
-  marks-more : (target : List ℕ) (n : ℕ) (b : Bool) → n < 256 → member target n ≡ b → Marked target n → Marked target (suc n)
-  marks-more target n true l e (u, ws, q, four, is, runs) =
+  marks_more : (target : List ℕ) (n : ℕ) (b : Bool) → n < 256 → member target n ≡ b → Marked target n → Marked target (suc n)
+  marks_more target n true l e (u, ws, q, four, is, runs) =
       let w = mark_next k n u q in
       let one : Runs (place u (marks ws)) (cond (member target n) (row.Outage (pos k) (pos n) ∷ []) []) (place (stage.Outage (pos k) (pos n)) (marks (marked ws n true))) =
       subst (λ (b : Bool). Runs (place u (marks ws)) (cond b (row.Outage (pos k) (pos n) ∷ []) []) (place (stage.Outage (pos k) (pos n)) (marks (marked ws n true)))) (sym e)
-      (runs_one u (stage.Outage (pos k) (pos n)) (marks ws) (marks (marked ws n true)) (row.Outage (pos k) (pos n)) w.1 refl w.0 (λ m. enter-mark ws m n l)) in (
+      (runs_one u (stage.Outage (pos k) (pos n)) (marks ws) (marks (marked ws n true)) (row.Outage (pos k) (pos n)) w.1 refl w.0 (λ m. enter_mark ws m n l)) in (
         stage.Outage (pos k) (pos n),
         marked ws n true,
         (refl, lt-ltb n (suc n) (omega arith)),
@@ -254,7 +254,7 @@ module _ (bs : List Bus) (l : Option ℤ) (t : List (Option Constraint)) (rs : L
         subst (λ (rs : List Row). Runs (place (stage.Constraint (pos k)) (marks no_words)) rs (place (stage.Outage (pos k) (pos n)) (marks (marked ws n true)))) (sym (outages_more k (member target) n))
             (runs_append (place (stage.Constraint (pos k)) (marks no_words)) (place u (marks ws)) (place (stage.Outage (pos k) (pos n)) (marks (marked ws n true))) (outage_rows k (member target) n) _ runs one),
       )
-  marks-more target n false l e (u, ws, q, four, is, runs) =
+  marks_more target n false l e (u, ws, q, four, is, runs) =
       let none : cond (member target n) (row.Outage (pos k) (pos n) ∷ []) [] ≡ [] = cond-false (member target n) _ [] e in (
         u,
         ws,
@@ -270,14 +270,14 @@ module _ (bs : List Bus) (l : Option ℤ) (t : List (Option Constraint)) (rs : L
           (λ (other : j ≡ n → ⊥). let t : ltb j n ≡ ltb j (suc n) = grind (arith, nat_tests) in ap (λ (b : Bool). b && member target j) t)
           (cases_eq j n)
 
-  marks-below : (target : List ℕ) (n : ℕ) → n ≤ 256 → Marked target n
+  marks_below : (target : List ℕ) (n : ℕ) → n ≤ 256 → Marked target n
   unfolding outage_rows
-  marks-below target zero l = (stage.Constraint (pos k), no_words, refl, refl, marked_none (member target), runs_none (place (stage.Constraint (pos k)) (marks no_words)))
-  marks-below target (suc n) l = marks-more target n (member target n) (omega arith) refl (marks-below target n (omega arith))
+  marks_below target zero l = (stage.Constraint (pos k), no_words, refl, refl, marked_none (member target), runs_none (place (stage.Constraint (pos k)) (marks no_words)))
+  marks_below target (suc n) l = marks_more target n (member target n) (omega arith) refl (marks_below target n (omega arith))
 
-  all-marks : (target : List ℕ) → four_words target ≡ true → (u : Stage) × QMark k 256 u × Runs (place (stage.Constraint (pos k)) (marks no_words)) (outage_rows k (member target) 256) (place u (marks target))
-  all-marks target h =
-      let m = marks-below target 256 (omega arith) in
+  all_marks : (target : List ℕ) → four_words target ≡ true → (u : Stage) × QMark k 256 u × Runs (place (stage.Constraint (pos k)) (marks no_words)) (outage_rows k (member target) 256) (place u (marks target))
+  all_marks target h =
+      let m = marks_below target 256 (omega arith) in
       let same : m.1 ≡ target = words_same m.1 target m.3 h (marked_all (member target) m.1 256 (omega arith) m.4) in
       (m.0, m.2, subst (λ (ws : List ℕ). Runs (place (stage.Constraint (pos k)) (marks no_words)) (outage_rows k (member target) 256) (place m.0 (marks ws))) same m.5)
 
@@ -329,7 +329,7 @@ constraint_entry bs l rs t k (Some x) s hk ht g rule q h =
     let w = constraint_next k s q in
     let b : Hour = record { buses = bs; lambda = l; constraints = t; runs = rs } in
     let c = marks bs l t rs k x.shadow_price hk ht no_words in
-    let m = all-marks bs l t rs k x.shadow_price hk ht x.out p.1 in (
+    let m = all_marks bs l t rs k x.shadow_price hk ht x.out p.1 in (
       m.0,
       marked_constraint k m.0 m.1,
       runs_append (place s b) (place (stage.Constraint (pos k)) c) (place m.0 (with_constraint b k (Some x))) (row.Constraint (pos k) x.shadow_price ∷ []) (outage_rows k (member x.out) 256)
@@ -431,30 +431,30 @@ module _ (book : Book) (no : List Bus) (nc : List (Option Constraint)) (nr : Lis
   abbrev hour : List Bus → Option ℤ → List (Option Constraint) → List (Option Run) → Hour
   hour bs l cs rs = record { buses = bs; lambda = l; constraints = cs; runs = rs }
 
-  buses-run : (u : Stage) × QBus 256 u × Runs (place stage.Start (hour no None nc nr)) (indexed bus_rows 0 book.buses) (place u (hour book.buses None nc nr))
-  buses-run =
+  buses_run : (u : Stage) × QBus 256 u × Runs (place stage.Start (hour no None nc nr)) (indexed bus_rows 0 book.buses) (place u (hour book.buses None nc nr))
+  buses_run =
       let all = set_all book.buses no (lo ∙ sym book.size) in
       let r = table bus_rows no_bus bus_sound (λ y. hour y None nc nr) QBus 256 FewPerHubBus few_front (bus_entry None nc nr) book.buses no 0 stage.Start (omega (arith, book.size)) lo book.sound (subst FewPerHubBus (sym all) book.few) tt fo in
       (r.0, r.1, subst (λ (y : List Bus). Runs (place stage.Start (hour no None nc nr)) (indexed bus_rows 0 book.buses) (place r.0 (hour y None nc nr))) all r.2)
 
-  constraints-run : (s : Stage) → QConstraint 0 s → (u : Stage) × QConstraint 32 u × Runs (place s (hour book.buses book.lambda nc nr)) (indexed constraint_rows 0 book.constraints) (place u (hour book.buses book.lambda book.constraints nr))
-  constraints-run s q =
+  constraints_run : (s : Stage) → QConstraint 0 s → (u : Stage) × QConstraint 32 u × Runs (place s (hour book.buses book.lambda nc nr)) (indexed constraint_rows 0 book.constraints) (place u (hour book.buses book.lambda book.constraints nr))
+  constraints_run s q =
       let all = set_all book.constraints nc (lc ∙ sym book.columns.0) in
       let r = table constraint_rows None (when_some constraint_sound) (λ y. hour book.buses book.lambda y nr) QConstraint 32 NoRule (λ _ _ _ _ _ _. tt) (constraint_entry book.buses book.lambda nr) book.constraints nc 0 s (omega (arith, book.columns.0)) lc book.posted tt q fc in
       (r.0, r.1, subst (λ (y : List (Option Constraint)). Runs (place s (hour book.buses book.lambda nc nr)) (indexed constraint_rows 0 book.constraints) (place r.0 (hour book.buses book.lambda y nr))) all r.2)
 
-  runs-run : (s : Stage) → QRun 0 s → (u : Stage) × QRun 16 u × Runs (place s (hour book.buses book.lambda book.constraints nr)) (indexed run_row 0 book.runs) (place u (entries book))
-  runs-run s q =
+  runs_run : (s : Stage) → QRun 0 s → (u : Stage) × QRun 16 u × Runs (place s (hour book.buses book.lambda book.constraints nr)) (indexed run_row 0 book.runs) (place u (entries book))
+  runs_run s q =
       let all = set_all book.runs nr (lr ∙ sym book.columns.1) in
       let r = table run_row None (when_some run_sound) (λ y. hour book.buses book.lambda book.constraints y) QRun 16 InTime time_front (run_entry book.buses book.lambda book.constraints) book.runs nr 0 s (omega (arith, book.columns.1)) lr book.entered (subst InTime (sym all) book.seconds) q fr in
       (r.0, r.1, subst (λ (y : List (Option Run)). Runs (place s (hour book.buses book.lambda book.constraints nr)) (indexed run_row 0 book.runs) (place r.0 (hour book.buses book.lambda book.constraints y))) all r.2)
 
   whole : (u : Stage) × QRun 16 u × Runs (place stage.Start (hour no None nc nr)) (rows (entries book)) (place u (entries book))
   whole =
-      let a = buses-run in
+      let a = buses_run in
       let b = lambda_runs book.buses nc nr book.lambda a.0 book.price a.1 in
-      let c = constraints-run b.0 b.1 in
-      let d = runs-run c.0 (constraints_done c.0 c.1) in
+      let c = constraints_run b.0 b.1 in
+      let d = runs_run c.0 (constraints_done c.0 c.1) in
       let p₀ = place stage.Start (hour no None nc nr) in
       let p₁ = place a.0 (hour book.buses None nc nr) in
       let p₂ = place b.0 (hour book.buses book.lambda nc nr) in

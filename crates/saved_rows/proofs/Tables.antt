@@ -32,20 +32,20 @@ replicate_length d zero = refl
 replicate_length d (suc n) = ap suc (replicate_length d n)
 
 module _ {A : Type 0} (f : ℕ → A → List Row) (d : A) (none : (k : ℕ) → f k d ≡ []) where
-  pub indexed-none : (xs : List A) (k : ℕ) → From d xs 0 → indexed f k xs ≡ []
-  indexed-none [] k h = refl
-  indexed-none (x ∷ xs) k h = (λ i. f k (h 0 (omega arith) i) ++ indexed-none xs (suc k) (λ j l. h (suc j) (omega arith)) i) ∙ ap (λ l. l ++ []) (none k)
+  pub indexed_none : (xs : List A) (k : ℕ) → From d xs 0 → indexed f k xs ≡ []
+  indexed_none [] k h = refl
+  indexed_none (x ∷ xs) k h = (λ i. f k (h 0 (omega arith) i) ++ indexed_none xs (suc k) (λ j l. h (suc j) (omega arith)) i) ∙ ap (λ l. l ++ []) (none k)
 
   -- one entry more, or more of the last one
-  pub indexed-grow : (xs : List A) (k i : ℕ) (x : A) (new : List Row) → i < length xs → From d xs (suc i) → f (k + i) x ≡ f (k + i) (get_or xs i d) ++ new → indexed f k (set xs i x) ≡ indexed f k xs ++ new
-  indexed-grow [] k i x new l h e = absurd (omega arith)
-  indexed-grow (y ∷ ys) k zero x new l h e =
-      let gone = indexed-none ys (suc k) (λ j l. h (suc j) (omega arith)) in
+  pub indexed_grow : (xs : List A) (k i : ℕ) (x : A) (new : List Row) → i < length xs → From d xs (suc i) → f (k + i) x ≡ f (k + i) (get_or xs i d) ++ new → indexed f k (set xs i x) ≡ indexed f k xs ++ new
+  indexed_grow [] k i x new l h e = absurd (omega arith)
+  indexed_grow (y ∷ ys) k zero x new l h e =
+      let gone = indexed_none ys (suc k) (λ j l. h (suc j) (omega arith)) in
       let here : f k x ≡ f k y ++ new = subst (λ m. f m x ≡ f m y ++ new) (add-zero k) e in
       ap (λ t. f k x ++ t) gone ∙ append-nil (f k x) ∙ here ∙ ap (λ t. t ++ new) (sym (append-nil (f k y)) ∙ ap (λ t. f k y ++ t) (sym gone))
-  indexed-grow (y ∷ ys) k (suc i) x new l h e =
+  indexed_grow (y ∷ ys) k (suc i) x new l h e =
       let q : k + suc i ≡ suc k + i = omega arith in
-      ap (λ t. f k y ++ t) (indexed-grow ys (suc k) i x new (omega arith) (λ j l. h (suc j) (omega arith)) (subst (λ m. f m x ≡ f m (get_or ys i d) ++ new) q e)) ∙ sym (append_assoc (f k y) (indexed f (suc k) ys) new)
+      ap (λ t. f k y ++ t) (indexed_grow ys (suc k) i x new (omega arith) (λ j l. h (suc j) (omega arith)) (subst (λ m. f m x ≡ f m (get_or ys i d) ++ new) q e)) ∙ sym (append_assoc (f k y) (indexed f (suc k) ys) new)
 
 -- the lines of one entry more
 pub indexed_more : {A : Type 0} (f : ℕ → A → List Row) (xs : List A) (k i : ℕ) (d : A) → i < length xs → indexed f k (take (i + 1) xs) ≡ indexed f k (take i xs) ++ f (k + i) (get_or xs i d)

@@ -27,12 +27,12 @@ fit_append : (xs ys : List Row) (m n : ℕ) → Fit xs m → Fit ys n → Fit (x
 fit_append xs ys m n a b = (All-append Writable xs ys a.0 b.0, omega (arith, a.1, b.1, length-append xs ys))
 
 module _ {A : Type 0} (f : ℕ → A → List Row) (good : A → Bool) (N m : ℕ) (fit : (k : ℕ) (x : A) → k < N → good x ≡ true → Fit (f k x) m) where
-  fit-indexed : (xs : List A) (k : ℕ) → k + length xs ≤ N → all_by good xs ≡ true → Fit (indexed f k xs) (m * length xs)
-  fit-indexed [] k l g = (tt, omega arith)
-  fit-indexed (x ∷ xs) k l g =
+  fit_indexed : (xs : List A) (k : ℕ) → k + length xs ≤ N → all_by good xs ≡ true → Fit (indexed f k xs) (m * length xs)
+  fit_indexed [] k l g = (tt, omega arith)
+  fit_indexed (x ∷ xs) k l g =
       let p = and_parts (good x) (all_by good xs) g in
       let a = fit k x (omega arith) p.0 in
-      let b = fit-indexed xs (suc k) (omega arith) p.1 in
+      let b = fit_indexed xs (suc k) (omega arith) p.1 in
       (All-append Writable (f k x) (indexed f (suc k) xs) a.0 b.0, omega (arith, a.1, b.1, length-append (f k x) (indexed f (suc k) xs), mul-suc m (length xs)))
 
 few_within : (z : ℤ) (m : ℕ) → m < 10 ^ 15 → within z m ≡ true → FewDigits z
@@ -94,10 +94,10 @@ fit_run k (Some x) hk g =
 
 pub all_writable : AllWritable
 all_writable book =
-    let a = fit-indexed bus_rows bus_sound 256 1 fit_bus book.buses 0 (omega (arith, book.size)) book.sound in
+    let a = fit_indexed bus_rows bus_sound 256 1 fit_bus book.buses 0 (omega (arith, book.size)) book.sound in
     let b = fit_lambda book.lambda book.price in
-    let c = fit-indexed constraint_rows (when_some constraint_sound) 32 257 fit_constraint book.constraints 0 (omega (arith, book.columns.0)) book.posted in
-    let d = fit-indexed run_row short_run 16 1 fit_run book.runs 0 (omega (arith, book.columns.1)) (all_short book.runs book.seconds book.entered) in
+    let c = fit_indexed constraint_rows (when_some constraint_sound) 32 257 fit_constraint book.constraints 0 (omega (arith, book.columns.0)) book.posted in
+    let d = fit_indexed run_row short_run 16 1 fit_run book.runs 0 (omega (arith, book.columns.1)) (all_short book.runs book.seconds book.entered) in
     let cd = fit_append (indexed constraint_rows 0 book.constraints) (indexed run_row 0 book.runs) _ _ c d in
     let bcd = fit_append (lambda_rows book.lambda) (indexed constraint_rows 0 book.constraints ++ indexed run_row 0 book.runs) _ _ b cd in
     let all = fit_append (indexed bus_rows 0 book.buses) (lambda_rows book.lambda ++ (indexed constraint_rows 0 book.constraints ++ indexed run_row 0 book.runs)) _ _ a bcd in

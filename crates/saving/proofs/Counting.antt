@@ -42,12 +42,12 @@ length_front (x ∷ xs) (suc i) = omega (arith, length_front xs i)
 
 -- a table whose entries have at most m lines each
 module _ {A : Type 0} (f : ℕ → A → List Row) (m : ℕ) (few : (k : ℕ) (x : A) → length (f k x) ≤ m) where
-  few-lines : (xs : List A) (k : ℕ) → length (indexed f k xs) ≤ m * length xs
-  few-lines [] k = omega arith
-  few-lines (x ∷ xs) k = omega (arith, few k x, few-lines xs (suc k), length-append (f k x) (indexed f (suc k) xs), mul-suc m (length xs))
+  few_lines : (xs : List A) (k : ℕ) → length (indexed f k xs) ≤ m * length xs
+  few_lines [] k = omega arith
+  few_lines (x ∷ xs) k = omega (arith, few k x, few_lines xs (suc k), length-append (f k x) (indexed f (suc k) xs), mul-suc m (length xs))
 
-  pub counted-front : (xs : List A) (i : ℕ) {a b : Draft} → Grows (indexed f 0 (take i xs)) a b → b.lines ≤ a.lines + m * i
-  counted-front xs i g = omega (arith, g.count, few-lines (take i xs) 0, mul-le-mul_left m (length_front xs i))
+  pub counted_front : (xs : List A) (i : ℕ) {a b : Draft} → Grows (indexed f 0 (take i xs)) a b → b.lines ≤ a.lines + m * i
+  counted_front xs i g = omega (arith, g.count, few_lines (take i xs) 0, mul-le-mul_left m (length_front xs i))
 
-  pub counted-all : (xs : List A) {a b : Draft} → Grows (indexed f 0 xs) a b → b.lines ≤ a.lines + m * length xs
-  counted-all xs g = omega (arith, g.count, few-lines xs 0)
+  pub counted_all : (xs : List A) {a b : Draft} → Grows (indexed f 0 xs) a b → b.lines ≤ a.lines + m * length xs
+  counted_all xs g = omega (arith, g.count, few_lines xs 0)

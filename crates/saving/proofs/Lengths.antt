@@ -36,11 +36,11 @@ short_one r m h = omega (arith, h, length-append (line_text r) [])
 
 -- a table whose entries take at most m bytes each
 module _ {A : Type 0} (f : ℕ → A → List Row) (good : A → Bool) (N m : ℕ) (short : (k : ℕ) (x : A) → k < N → good x ≡ true → Short (f k x) m) where
-  short-indexed : (xs : List A) (k : ℕ) → k + length xs ≤ N → all_by good xs ≡ true → Short (indexed f k xs) (m * length xs)
-  short-indexed [] k l g = omega arith
-  short-indexed (x ∷ xs) k l g =
+  short_indexed : (xs : List A) (k : ℕ) → k + length xs ≤ N → all_by good xs ≡ true → Short (indexed f k xs) (m * length xs)
+  short_indexed [] k l g = omega arith
+  short_indexed (x ∷ xs) k l g =
       let p = and_parts (good x) (all_by good xs) g in
-      let both = short_append (f k x) (indexed f (suc k) xs) m (m * length xs) (short k x (omega arith) p.0) (short-indexed xs (suc k) (omega arith) p.1) in
+      let both = short_append (f k x) (indexed f (suc k) xs) m (m * length xs) (short k x (omega arith) p.0) (short_indexed xs (suc k) (omega arith) p.1) in
       omega (arith, both, mul-suc m (length xs))
 
 digits : (k n : ℕ) → 0 < k → n < 10 ^ k → n < 2 ^ 64 → length (signed_decimal (pos n)) ≤ k
@@ -141,10 +141,10 @@ short_end n l = short_one (row.End (pos n)) 7 (simp length-append (omega (arith,
 pub saved_fits : (book : Book) → Fits (entries book)
 unfolding saved_text
 saved_fits book =
-    let a = short-indexed bus_rows bus_sound 256 29 short_bus book.buses 0 (omega (arith, book.size)) book.sound in
+    let a = short_indexed bus_rows bus_sound 256 29 short_bus book.buses 0 (omega (arith, book.size)) book.sound in
     let b = short_lambda book.lambda book.price in
-    let c = short-indexed constraint_rows (when_some constraint_sound) 32 2318 short_constraint book.constraints 0 (omega (arith, book.columns.0)) book.posted in
-    let d = short-indexed run_row short_run 16 27 short_run_row book.runs 0 (omega (arith, book.columns.1)) (all_short book.runs book.seconds book.entered) in
+    let c = short_indexed constraint_rows (when_some constraint_sound) 32 2318 short_constraint book.constraints 0 (omega (arith, book.columns.0)) book.posted in
+    let d = short_indexed run_row short_run 16 27 short_run_row book.runs 0 (omega (arith, book.columns.1)) (all_short book.runs book.seconds book.entered) in
     let e = short_end (length (rows (entries book))) (all_writable book).0 in
     let cd = short_append (indexed constraint_rows 0 book.constraints) (indexed run_row 0 book.runs) _ _ c d in
     let bcd = short_append (lambda_rows book.lambda) (indexed constraint_rows 0 book.constraints ++ indexed run_row 0 book.runs) _ _ b cd in

@@ -6,7 +6,7 @@ use Rattle.std.proofs.lemmas.Fmt.{decimal_by_steps}
 use Rattle.std.proofs.ByRecursion.{All-append, All-weaker}
 use Rattle.std.proofs.lemmas.List.{append_assoc}
 use Rattle.cuts.specs.Cuts.{split, join}
-use Rattle.cuts.proofs.Cutting.{Plain, split-append, split-join}
+use Rattle.cuts.proofs.Cutting.{Plain, split_append, split_join}
 use Rattle.hour.specs.Hour.{entries}
 use Rattle.hour.specs.declared.book.Book.{Book}
 use Rattle.saved_rows.specs.declared.row.Row.{Row}
@@ -78,18 +78,18 @@ above_join (f ∷ []) a = above_less f a.0
 above_join (f ∷ g ∷ gs) a = All-append (λ b. 43 < b) f (44 ∷ join 44 (g ∷ gs)) (above_less f a.0) (omega arith, above_join (g ∷ gs) a.1)
 
 pub fields_apart : (r : Row) → Writable r → split 44 (join 44 (fields_of r)) ≡ fields_of r
-fields_apart (row.Bus b) w = split-join 44 _ _ (plain_fields (row.Bus b) w)
-fields_apart (row.Lambda z) w = split-join 44 _ _ (plain_fields (row.Lambda z) w)
-fields_apart (row.Constraint i p) w = split-join 44 _ _ (plain_fields (row.Constraint i p) w)
-fields_apart (row.Outage i b) w = split-join 44 _ _ (plain_fields (row.Outage i b) w)
-fields_apart (row.Run i s a r) w = split-join 44 _ _ (plain_fields (row.Run i s a r) w)
-fields_apart (row.End n) w = split-join 44 _ _ (plain_fields (row.End n) w)
+fields_apart (row.Bus b) w = split_join 44 _ _ (plain_fields (row.Bus b) w)
+fields_apart (row.Lambda z) w = split_join 44 _ _ (plain_fields (row.Lambda z) w)
+fields_apart (row.Constraint i p) w = split_join 44 _ _ (plain_fields (row.Constraint i p) w)
+fields_apart (row.Outage i b) w = split_join 44 _ _ (plain_fields (row.Outage i b) w)
+fields_apart (row.Run i s a r) w = split_join 44 _ _ (plain_fields (row.Run i s a r) w)
+fields_apart (row.End n) w = split_join 44 _ _ (plain_fields (row.End n) w)
 
 -- a first line comes apart from those behind it
 pub line_apart : (r : Row) (t : List ℕ) → Writable r → split 10 (line_text r ++ t) ≡ join 44 (fields_of r) ∷ split 10 t
 line_apart r t w =
     ap (split 10) (append_assoc (join 44 (fields_of r)) (10 ∷ []) t)
-    ∙ split-append 10 (join 44 (fields_of r)) t (above_plain 43 10 (omega arith) (join 44 (fields_of r)) (above_join (fields_of r) (above_fields r w)))
+    ∙ split_append 10 (join 44 (fields_of r)) t (above_plain 43 10 (omega arith) (join 44 (fields_of r)) (above_join (fields_of r) (above_fields r w)))
 
 pub lines_apart : (rs : List Row) → All Writable rs → map (split 44) (split 10 (flat_map line_text rs)) ≡ map fields_of rs ++ (([] ∷ []) ∷ [])
 lines_apart [] w = refl

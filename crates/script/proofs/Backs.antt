@@ -1,4 +1,4 @@
--- A call that is written is read back, and so are a factor and a question.
+-- A call that is written is read back.
 use Rattle.std.proofs.Common.{◌≡◌, ℕ, Bool, true, false, cond, List, Some, Ok, codes, sym, refl, ap, ◌∙◌, subst}
 use Rattle.std.specs.Str.{bytes_eq}
 use Rattle.std.proofs.lemmas.Bool.{cond-true, cond-false}
@@ -8,15 +8,11 @@ use Rattle.hour.specs.declared.calls.Call.{Call}
 use Rattle.hour.specs.declared.calls.Call.TheVariants.{Place, Status, Load, Lambda, Post, Strike, Outage, EnterRun, DropRun}
 use Rattle.hour.specs.declared.records.Market.{Market}
 use Rattle.hour.specs.declared.records.Market.TheVariants.{DayAhead, RealTime}
-use Rattle.weighting.specs.declared.points.Kind.{Kind}
-use Rattle.weighting.specs.declared.points.Kind.TheVariants.{Hub, Zone, Tie}
-use Rattle.weighting.specs.declared.points.Point.{Point}
 use Rattle.script.specs.declared.commands.Command.TheVariants as command-of
-use Rattle.script.specs.declared.factors.Factor.{Factor}
 use Rattle.script.specs.Commands.{command}
-use Rattle.script.specs.Readings.{market_of, kind_of, choice_of}
+use Rattle.script.specs.Readings.{market_of, choice_of}
 use Rattle.script.specs.Words.{words}
-use Rattle.script.specs.Written.{factor_words, factor_written, kind_name, market_name, price_verb, question_words, question_written, words_of, written, FactorFits64, Fits64, PointFits64}
+use Rattle.script.specs.Written.{market_name, words_of, written, Fits64}
 use Rattle.script.proofs.Spaces.{Word, spelt, words_spaced}
 use Rattle.script.proofs.Integers.{number_signed, word_signed}
 
@@ -65,34 +61,3 @@ reads_back c f = ap command (words_spaced (words_of c) (all_words c f)) ∙ comm
 -- the same, by the case that a call is
 pub back : (c v : Call) → c ≡ v → Fits64 v → command (words (written c)) ≡ Ok (Some (command-of.Call c))
 back c v e f = reads_back c (subst Fits64 (sym e) f)
-
-factor_commanded : (f : Factor) → FactorFits64 f → command (factor_words f) ≡ Ok (Some (command-of.Factor f))
-factor_commanded f (b, (c, (n, _))) = simp number_signed
-
-factor_all_words : (f : Factor) → FactorFits64 f → All Word (factor_words f)
-factor_all_words f (b, (c, (n, _))) = (spelt _ refl, (word_signed f.bus b, (word_signed f.column c, (word_signed f.number n, tt))))
-
-pub factor_reads_back : (f : Factor) → FactorFits64 f → command (words (factor_written f)) ≡ Ok (Some (command-of.Factor f))
-factor_reads_back f h = ap command (words_spaced (factor_words f) (factor_all_words f h)) ∙ factor_commanded f h
-
-kind_back : (k : Kind) → kind_of (kind_name k) ≡ Some k
-kind_back Hub = refl
-kind_back Zone = refl
-kind_back Tie = refl
-
-kind_word : (k : Kind) → Word (kind_name k)
-kind_word Hub = spelt _ refl
-kind_word Zone = spelt _ refl
-kind_word Tie = spelt _ refl
-
-verb_word : (m : Market) → Word (price_verb m)
-verb_word DayAhead = spelt _ refl
-verb_word RealTime = spelt _ refl
-
-question_commanded : (m : Market) (p : Point) → PointFits64 p → command (question_words m p) ≡ Ok (Some (command-of.Price m p))
-question_commanded DayAhead p f = simp (kind_back, number_signed)
-question_commanded RealTime p f = simp (kind_back, number_signed)
-
-pub question_reads_back : (m : Market) (p : Point) → PointFits64 p → command (words (question_written m p)) ≡ Ok (Some (command-of.Price m p))
-question_reads_back m p f =
-    ap command (words_spaced (question_words m p) (verb_word m, (kind_word p.kind, (word_signed p.number f, tt)))) ∙ question_commanded m p f

@@ -75,10 +75,10 @@ number_signed z f = some_from_ok (number_of (signed_decimal z)) z (parse-signed_
 -- digits hold no blank
 digits_plain : (ds : List ℕ) → all_ascii_digits ds ≡ true → Plain ds
 digits_plain [] e = tt
-digits_plain (c ∷ cs) e = let p = and_parts (is_ascii_digit c) (all_ascii_digits cs) e in (digit-plain c p.0, digits_plain cs p.1)
+digits_plain (c ∷ cs) e = let p = and_parts (is_ascii_digit c) (all_ascii_digits cs) e in (digit_plain c p.0, digits_plain cs p.1)
   where
-    digit-plain : (c : ℕ) → is_ascii_digit c ≡ true → blank c ≡ false
-    digit-plain c d = grind (arith, tests)
+    digit_plain : (c : ℕ) → is_ascii_digit c ≡ true → blank c ≡ false
+    digit_plain c d = grind (arith, tests)
 
 pub word_signed : (z : ℤ) → SFits w64 z → Word (signed_decimal z)
 word_signed (pos n) f = let l : n < 2 ^ 64 = omega (arith, f.sfits) in record { plain = digits_plain (decimal n) (digits_decimal own n l); some = decimal_nonempty n l }

@@ -1,10 +1,8 @@
 -- The command that the words of a line make.
 use Rattle.std.specs.Prelude.{ℕ, Bool, false, cond, List, [], ◌∷◌, Some, None, Ok, Err, codes, Option, Result, ◌==◌}
 use Rattle.hour.specs.declared.calls.Call.TheVariants as call
-use Rattle.hour.specs.declared.records.Market.{Market}
-use Rattle.hour.specs.declared.records.Market.TheVariants.{DayAhead, RealTime}
 use Rattle.script.specs.declared.commands.Command.{Command}
-use Rattle.script.specs.declared.commands.Command.TheVariants.{Call, Factor, Weights, Price, Show, Help}
+use Rattle.script.specs.declared.commands.Command.TheVariants.{Call, Weights, Show, Help}
 use Rattle.script.specs.declared.commands.NotACall.{NotACall}
 use Rattle.script.specs.declared.commands.NotACall.TheVariants.{Unknown, Usage}
 use Rattle.script.specs.declared.verbs.Verb.{Verb}
@@ -25,10 +23,6 @@ word read k ws = chain (first read ws) (λ x. k x (others ws))
 abbrev pub lastly : {X : Type 0} → (List ℕ → Option X) → (Option X → Command) → List (List ℕ) → Option Command
 lastly read k ws = chain (last read ws) (λ x. Some (k x))
 
--- a question for the price of a point
-abbrev pub priced : Market → List (List ℕ) → Option Command
-priced market = word kind_of (λ kind. word number_of (λ number. end (Price market (record { kind = kind; number = number }))))
-
 -- the command of a verb and the words after it, where they fit
 abbrev pub arguments : Verb → List (List ℕ) → Option Command
 arguments verb.Place = word number_of (λ bus. word number_of (λ hub. word number_of (λ zone. end (Call (call.Place bus hub zone)))))
@@ -40,10 +34,7 @@ arguments verb.Strike = word number_of (λ constraint. end (Call (call.Strike co
 arguments verb.Outage = word number_of (λ constraint. word number_of (λ bus. word (choice_of (codes "on") (codes "off")) (λ out. end (Call (call.Outage constraint bus out)))))
 arguments verb.Run = word number_of (λ run. word number_of (λ seconds. word number_of (λ reserve. word number_of (λ reliability. end (Call (call.EnterRun run seconds reserve reliability))))))
 arguments verb.Drop = word number_of (λ run. end (Call (call.DropRun run)))
-arguments verb.Factor = word number_of (λ bus. word number_of (λ column. word number_of (λ number. end (Factor (record { bus = bus; column = column; number = number })))))
 arguments verb.Weights = word kind_of (λ kind. word number_of (λ number. lastly number_of (λ constraint. Weights (record { kind = kind; number = number }) constraint)))
-arguments verb.Price = priced DayAhead
-arguments verb.RealTime = priced RealTime
 arguments verb.Show = end Show
 arguments verb.Help = end Help
 

@@ -2,10 +2,10 @@
 use Rattle.std.specs.Prelude.{ℕ, cond, List, [], ◌∷◌, Some, None, codes, Option}
 use Rattle.std.specs.Str.{bytes_eq}
 use Rattle.script.specs.declared.verbs.Verb.{Verb}
-use Rattle.script.specs.declared.verbs.Verb.TheVariants.{Place, Status, Load, Lambda, Post, Strike, Outage, Run, Drop, Factor, Weights, Price, RealTime, Show, Help}
+use Rattle.script.specs.declared.verbs.Verb.TheVariants.{Place, Status, Load, Lambda, Post, Strike, Outage, Run, Drop, Weights, Show, Help}
 
 abbrev pub all_verbs : List Verb
-all_verbs = Place ∷ Status ∷ Load ∷ Lambda ∷ Post ∷ Strike ∷ Outage ∷ Run ∷ Drop ∷ Factor ∷ Weights ∷ Price ∷ RealTime ∷ Show ∷ Help ∷ []
+all_verbs = Place ∷ Status ∷ Load ∷ Lambda ∷ Post ∷ Strike ∷ Outage ∷ Run ∷ Drop ∷ Weights ∷ Show ∷ Help ∷ []
 
 abbrev pub verb_of : List ℕ → Option Verb
 verb_of w =
@@ -18,12 +18,9 @@ verb_of w =
     cond (bytes_eq w (codes "outage")) (Some Outage) (
     cond (bytes_eq w (codes "run")) (Some Run) (
     cond (bytes_eq w (codes "drop")) (Some Drop) (
-    cond (bytes_eq w (codes "factor")) (Some Factor) (
     cond (bytes_eq w (codes "weights")) (Some Weights) (
-    cond (bytes_eq w (codes "price")) (Some Price) (
-    cond (bytes_eq w (codes "real-time")) (Some RealTime) (
     cond (bytes_eq w (codes "show")) (Some Show) (
-    cond (bytes_eq w (codes "help")) (Some Help) None))))))))))))))
+    cond (bytes_eq w (codes "help")) (Some Help) None)))))))))))
 
 abbrev pub usage : Verb → List ℕ
 usage Place = codes "place BUS HUB_BUS ZONE"
@@ -35,9 +32,6 @@ usage Strike = codes "strike CONSTRAINT"
 usage Outage = codes "outage CONSTRAINT BUS on|off"
 usage Run = codes "run RUN SECONDS RESERVE_ADDER RELIABILITY_ADDER"
 usage Drop = codes "drop RUN"
-usage Factor = codes "factor BUS COLUMN NUMBER"
 usage Weights = codes "weights hub|zone|tie NUMBER [CONSTRAINT]"
-usage Price = codes "price hub|zone|tie NUMBER"
-usage RealTime = codes "real-time hub|zone|tie NUMBER"
 usage Show = codes "show"
 usage Help = codes "help"

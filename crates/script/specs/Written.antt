@@ -1,4 +1,4 @@
--- How a script writes a call, a number for the table, and a question for a price.
+-- How a script writes a call.
 use Rattle.std.specs.Prelude.{ℕ, cond, List, [], ◌∷◌, ◌++◌, ℤ, codes, FitsSigned}
 use Rattle.std.specs.Int.{w64}
 use Rattle.std.specs.Fmt.{signed_decimal}
@@ -7,10 +7,6 @@ use Rattle.hour.specs.declared.calls.Call.{Call}
 use Rattle.hour.specs.declared.calls.Call.TheVariants.{Place, Status, Load, Lambda, Post, Strike, Outage, EnterRun, DropRun}
 use Rattle.hour.specs.declared.records.Market.{Market}
 use Rattle.hour.specs.declared.records.Market.TheVariants.{DayAhead, RealTime}
-use Rattle.weighting.specs.declared.points.Kind.{Kind}
-use Rattle.weighting.specs.declared.points.Kind.TheVariants.{Hub, Zone, Tie}
-use Rattle.weighting.specs.declared.points.Point.{Point}
-use Rattle.script.specs.declared.factors.Factor.{Factor}
 
 abbrev pub market_name : Market → List ℕ
 market_name DayAhead = codes "day-ahead"
@@ -27,22 +23,6 @@ words_of (Outage constraint bus out) = codes "outage" ∷ signed_decimal constra
 words_of (EnterRun run seconds reserve reliability) = codes "run" ∷ signed_decimal run ∷ signed_decimal seconds ∷ signed_decimal reserve ∷ signed_decimal reliability ∷ []
 words_of (DropRun run) = codes "drop" ∷ signed_decimal run ∷ []
 
-abbrev pub factor_words : Factor → List (List ℕ)
-factor_words f = codes "factor" ∷ signed_decimal f.bus ∷ signed_decimal f.column ∷ signed_decimal f.number ∷ []
-
-abbrev pub kind_name : Kind → List ℕ
-kind_name Hub = codes "hub"
-kind_name Zone = codes "zone"
-kind_name Tie = codes "tie"
-
--- the word that asks for a price in a market
-abbrev pub price_verb : Market → List ℕ
-price_verb DayAhead = codes "price"
-price_verb RealTime = codes "real-time"
-
-abbrev pub question_words : Market → Point → List (List ℕ)
-question_words market point = price_verb market ∷ kind_name point.kind ∷ signed_decimal point.number ∷ []
-
 -- words with a space between any two
 abbrev pub spaced : List (List ℕ) → List ℕ
 spaced [] = []
@@ -51,12 +31,6 @@ spaced (w ∷ v ∷ vs) = w ++ (32 ∷ spaced (v ∷ vs))
 
 abbrev pub written : Call → List ℕ
 written c = spaced (words_of c)
-
-abbrev pub factor_written : Factor → List ℕ
-factor_written f = spaced (factor_words f)
-
-abbrev pub question_written : Market → Point → List ℕ
-question_written market point = spaced (question_words market point)
 
 abbrev pub numbers : Call → List ℤ
 numbers (Place bus hub zone) = bus ∷ hub ∷ zone ∷ []
@@ -72,11 +46,3 @@ numbers (DropRun run) = run ∷ []
 -- each number of the call is one of 64 bits, as it is in every call that code holds
 abbrev pub Fits64 : Call → Type 0
 Fits64 c = All (FitsSigned w64) (numbers c)
-
--- and so is each number of a factor
-abbrev pub FactorFits64 : Factor → Type 0
-FactorFits64 f = All (FitsSigned w64) (f.bus ∷ f.column ∷ f.number ∷ [])
-
--- and the number of a point
-abbrev pub PointFits64 : Point → Type 0
-PointFits64 point = FitsSigned w64 point.number

@@ -1,26 +1,20 @@
 // What a line of a script says.
 ghost use Rattle.std.specs.Prelude.{◌≡◌, Some, Ok};
-ghost use Rattle.script.specs.Commands.{arguments, command, priced};
+ghost use Rattle.script.specs.Commands.{arguments, command};
 ghost use Rattle.script.specs.Readings.{left};
 ghost use Rattle.script.specs.Words.{words};
-ghost use Rattle.script.specs.Written.{factor_written, question_written, written, FactorFits64, Fits64, PointFits64};
+ghost use Rattle.script.specs.Written.{written, Fits64};
 
-use crate::factors::Factor;
 use crate::verbs::Verb;
 use crate::words::Words;
 use hour::calls::Call;
-use hour::records::Market;
 use weighting::points::Point;
 
 #[derive(Clone, Copy)]
 pub enum Command {
     Call(Call),
-    // A number for the table of posted numbers.
-    Factor(Factor),
     // What a point's buses weigh, in the base case or under a constraint.
     Weights(Point, Option<i64>),
-    // What a point costs in a market.
-    Price(Market, Point),
     Show,
     Help,
 }
@@ -121,19 +115,6 @@ fn drop_run(mut args: Words<'_>) -> Option<Command>
     args.end(Command::Call(Call::DropRun { run }))
 }
 
-fn factor(mut args: Words<'_>) -> Option<Command>
-    ensures value { result ≡ arguments Verb.Factor (left args.entry) }
-{
-    let bus = args.number()?;
-    let column = args.number()?;
-    let number = args.number()?;
-    args.end(Command::Factor(Factor {
-        bus,
-        column,
-        number,
-    }))
-}
-
 fn weights(mut args: Words<'_>) -> Option<Command>
     ensures value { result ≡ arguments Verb.Weights (left args.entry) }
 {
@@ -141,14 +122,6 @@ fn weights(mut args: Words<'_>) -> Option<Command>
     let number = args.number()?;
     let constraint = args.last_number()?;
     Some(Command::Weights(Point { kind, number }, constraint))
-}
-
-fn price(mut args: Words<'_>, market: Market) -> Option<Command>
-    ensures value { result ≡ priced market (left args.entry) }
-{
-    let kind = args.kind()?;
-    let number = args.number()?;
-    args.end(Command::Price(market, Point { kind, number }))
 }
 
 // The command of a verb and the words after it, where they fit.
@@ -165,10 +138,7 @@ fn arguments(verb: Verb, args: Words<'_>) -> Option<Command>
         Verb::Outage => outage(args),
         Verb::Run => enter_run(args),
         Verb::Drop => drop_run(args),
-        Verb::Factor => factor(args),
         Verb::Weights => weights(args),
-        Verb::Price => price(args, Market::DayAhead),
-        Verb::RealTime => price(args, Market::RealTime),
         Verb::Show => args.end(Command::Show),
         Verb::Help => args.end(Command::Help),
     }
@@ -193,13 +163,10 @@ fn of_words(mut line: Words<'_>) -> Result<Option<Command>, NotACall>
     }
 }
 
-// The command that a line is, or `None` where the line is passed over. A line that writes a call, a factor or a question for a price
-// is that one.
+// The command that a line is, or `None` where the line is passed over. A line that writes a call is that call.
 pub fn read(line: &str) -> Result<Option<Command>, NotACall>
     ensures value { result ≡ command (words line.now) }
     ensures back { (c : Call) → Fits64 c → line.now ≡ written c → result ≡ Ok (Some (Command.Call c)) }
-    ensures factor { (f : Factor) → FactorFits64 f → line.now ≡ factor_written f → result ≡ Ok (Some (Command.Factor f)) }
-    ensures question { (m : Market) (p : Point) → PointFits64 p → line.now ≡ question_written m p → result ≡ Ok (Some (Command.Price m p)) }
 {
     of_words(Words::of(line))
 }

@@ -14,17 +14,14 @@ pub enum Verb {
     Outage,
     Run,
     Drop,
-    Factor,
     Weights,
-    Price,
-    RealTime,
     Show,
     Help,
 }
 
 impl Verb {
     // All verbs, in the order in which a person is told of them.
-    pub fn all() -> [Verb; 15]
+    pub fn all() -> [Verb; 12]
         ensures value { result ≡ all_verbs }
         ensures every { (v : Verb) → (i : ℕ) × (slice_index_or result i Verb.Help ≡ v) }
     {
@@ -38,10 +35,7 @@ impl Verb {
             Verb::Outage,
             Verb::Run,
             Verb::Drop,
-            Verb::Factor,
             Verb::Weights,
-            Verb::Price,
-            Verb::RealTime,
             Verb::Show,
             Verb::Help,
         ]
@@ -61,10 +55,7 @@ impl Verb {
             "outage" => Some(Verb::Outage),
             "run" => Some(Verb::Run),
             "drop" => Some(Verb::Drop),
-            "factor" => Some(Verb::Factor),
             "weights" => Some(Verb::Weights),
-            "price" => Some(Verb::Price),
-            "real-time" => Some(Verb::RealTime),
             "show" => Some(Verb::Show),
             "help" => Some(Verb::Help),
             _ => None,
@@ -85,10 +76,7 @@ impl Verb {
             Verb::Outage => "outage CONSTRAINT BUS on|off",
             Verb::Run => "run RUN SECONDS RESERVE_ADDER RELIABILITY_ADDER",
             Verb::Drop => "drop RUN",
-            Verb::Factor => "factor BUS COLUMN NUMBER",
             Verb::Weights => "weights hub|zone|tie NUMBER [CONSTRAINT]",
-            Verb::Price => "price hub|zone|tie NUMBER",
-            Verb::RealTime => "real-time hub|zone|tie NUMBER",
             Verb::Show => "show",
             Verb::Help => "help",
         }

@@ -1,42 +1,19 @@
-// Calls, factors and questions as lines of a script.
+// Calls as lines of a script.
 ghost use Rattle.std.specs.Prelude.{◌≡◌, IfOk, if◌then◌else◌, Some, Ok, string_bytes};
 ghost use Rattle.script.specs.Commands.{command};
 ghost use Rattle.script.specs.Words.{words};
-ghost use Rattle.script.specs.Written.{factor_written, kind_name, market_name, price_verb, question_written, written};
+ghost use Rattle.script.specs.Written.{market_name, written};
 
 use crate::commands::Command;
-use crate::factors::Factor;
 use hour::calls::Call;
 use hour::records::Market;
 use std::alloc::{AllocError, Global};
-use weighting::points::{Kind, Point};
 
 fn market_name(market: Market) -> &'static str
     ensures value { result.now ≡ market_name market }
 {
     match market {
         Market::DayAhead => "day-ahead",
-        Market::RealTime => "real-time",
-    }
-}
-
-// The word for a kind of point.
-pub fn kind_name(kind: Kind) -> &'static str
-    ensures value { result.now ≡ kind_name kind }
-{
-    match kind {
-        Kind::Hub => "hub",
-        Kind::Zone => "zone",
-        Kind::Tie => "tie",
-    }
-}
-
-// The word that asks for a price in a market.
-fn price_verb(market: Market) -> &'static str
-    ensures value { result.now ≡ price_verb market }
-{
-    match market {
-        Market::DayAhead => "price",
         Market::RealTime => "real-time",
     }
 }
@@ -86,28 +63,4 @@ pub fn write(heap: Global, call: &Call) -> Result<String, AllocError>
         } => format!(in heap; "run {run} {seconds} {reserve_adder} {reliability_adder}"),
         Call::DropRun { run } => format!(in heap; "drop {run}"),
     }
-}
-
-// The factor's line, which is read back as the factor.
-pub fn write_factor(heap: Global, factor: &Factor) -> Result<String, AllocError>
-    ensures made { IfOk result (λ s. string_bytes s ≡ factor_written factor.now) }
-    ensures back { command (words (factor_written factor.now)) ≡ Ok (Some (Command.Factor factor.now)) }
-{
-    let Factor {
-        bus,
-        column,
-        number,
-    } = *factor;
-    format!(in heap; "factor {bus} {column} {number}")
-}
-
-// The line of a question for a price, which is read back as the question.
-pub fn write_question(heap: Global, market: Market, point: Point) -> Result<String, AllocError>
-    ensures made { IfOk result (λ s. string_bytes s ≡ question_written market point) }
-    ensures back { command (words (question_written market point)) ≡ Ok (Some (Command.Price market point)) }
-{
-    let verb = price_verb(market);
-    let kind = kind_name(point.kind);
-    let number = point.number;
-    format!(in heap; "{verb} {kind} {number}")
 }

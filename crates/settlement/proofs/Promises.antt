@@ -15,14 +15,14 @@ use Rattle.weighting.specs.declared.points.Kind.{Kind}
 use Rattle.weighting.specs.declared.points.Kind.TheVariants as kind
 use Rattle.weighting.specs.declared.points.Point.{Point}
 use Rattle.day_ahead.specs.Prices.{base_case}
-use Rattle.day_ahead.specs.Moves.{bus_congestion, lowered, Moved}
+use Rattle.day_ahead.specs.Moves.{bus_congestion, lowered, PostedMoved}
 use Rattle.day_ahead.proofs.Living.{decided}
-use Rattle.day_ahead.proofs.Moving.{price-stays}
+use Rattle.day_ahead.proofs.Moving.{price_stays}
 use Rattle.real_time.specs.Weights.{base_view}
 use Rattle.real_time.proofs.Laws.{same_facts}
 use Rattle.pricing.specs.Origins.{Priced, own_price}
 use Rattle.pricing.specs.Taken.{TakenByKind, OfTaken}
-use Rattle.pricing.proofs.Standing.{point-stands}
+use Rattle.pricing.proofs.Standing.{point_stands}
 use Rattle.pricing.proofs.Deciding.{live_facts_decide, reference_stays, same_facts_decide}
 use Rattle.saved.specs.Texts.{saved_text}
 use Rattle.saved.specs.Reading.{reading}
@@ -38,8 +38,8 @@ weightings RealTime m book book' p q facts = same_facts m p q book book' facts
 
 points : (market : Market) (point : Point) (book book' : Book) (p q : Grid) (r : Priced) → PointFacts market point p q book book'
     → PointPriced market point p book r → PointPriced market point q book' r
-points DayAhead point book book' p q r facts priced = point-stands _ _ _ _ (live_facts_decide p q book book') point r facts priced
-points RealTime point book book' p q r facts priced = point-stands _ _ _ _ (same_facts_decide p q book book') point r facts priced
+points DayAhead point book book' p q r facts priced = point_stands _ _ _ _ (live_facts_decide p q book book') point r facts priced
+points RealTime point book book' p q r facts priced = point_stands _ _ _ _ (same_facts_decide p q book book') point r facts priced
 
 -- what holds of every weighting holds of the one that a point takes
 every_taken : (base : View) (kind : Kind) (z : ℤ) (Of : Meaning → Type 0) → ((m : Meaning) → Of m) → TakenByKind base kind z Of
@@ -72,17 +72,19 @@ module _ (deeds : List Deed) (book book' : Book) (posted : Grid) (bus : ℕ) (is
   abbrev congested : ℤ
   congested = bus_congestion posted bus book
 
-  moved-hour : entries book' ≡ after_all (entries book) (lowering (entries book).lambda congested)
-  moved-hour = moved ∙ after_append fresh deeds (lowering (entries book).lambda congested) ∙ ap (λ (h : Hour). after_all h (lowering (entries book).lambda congested)) (sym is)
+  moved_hour : entries book' ≡ after_all (entries book) (lowering (entries book).lambda congested)
+  moved_hour = moved ∙ after_append fresh deeds (lowering (entries book).lambda congested) ∙ ap (λ (h : Hour). after_all h (lowering (entries book).lambda congested)) (sym is)
 
-  pub is-moved : (m : Meaning) → Weighed posted book m → Moved m posted bus book book'
-  is-moved m weighed =
+  pub is_moved : (m : Meaning) → Weighed posted book m → PostedMoved m posted bus book book'
+  is_moved m weighed =
       let l = hour_lowered (entries book) congested range in
       record {
-        lambda = ap (λ (h : Hour). h.lambda) moved-hour ∙ l.lambda;
-        buses = ap (λ (h : Hour). h.buses) moved-hour ∙ l.buses;
-        constraints = ap (λ (h : Hour). h.constraints) moved-hour ∙ l.constraints;
-        weight = weighed.weight;
+        moved = record {
+          lambda = ap (λ (h : Hour). h.lambda) moved_hour ∙ l.lambda;
+          buses = ap (λ (h : Hour). h.buses) moved_hour ∙ l.buses;
+          constraints = ap (λ (h : Hour). h.constraints) moved_hour ∙ l.constraints;
+          weight = weighed.weight;
+        };
         small_factors = weighed.small_factors;
       }
 
@@ -99,9 +101,9 @@ module _ (deeds : List Deed) (back : (k : ℕ) → k ≤ length deeds → Back (
       (λ (past : length deeds ≤ first). subst (λ (ds : List Deed). Back (hour_of ds)) (take_all (length deeds) deeds (omega arith) ∙ sym (take_all first deeds past)) (back (length deeds) (omega arith)))
       (cases_lt first (length deeds))
 
-  come-back : (first : ℕ) (others : List Deed) (resume : Deed) → Resumes (saved_text (hour_of (take first deeds))) resume
+  come_back : (first : ℕ) (others : List Deed) (resume : Deed) → Resumes (saved_text (hour_of (take first deeds))) resume
       → hour_of (others ++ (resume ∷ [])) ≡ hour_of (take first deeds)
-  come-back first others resume is =
+  come_back first others resume is =
       after_append fresh others (resume ∷ []) ∙ resumes (hour_of others) (hour_of (take first deeds)) (saved_text (hour_of (take first deeds))) resume (all_back first) is
 
   pub promise : Promise deeds
@@ -109,12 +111,12 @@ module _ (deeds : List Deed) (back : (k : ℕ) → k ≤ length deeds → Back (
     live_facts_decide_weightings = λ market m others book book' p q _ _ facts. weightings market m book book' p q facts;
     live_facts_decide_points = λ market point others book book' p q r _ _ facts priced. points market point book book' p q r facts priced;
     reference_moves_no_weighting = λ m book book' posted bus _ is range moved weighed.
-        price-stays m posted bus book book' (is-moved deeds book book' posted bus is range moved m weighed);
+        price_stays m posted bus book book' (is_moved deeds book book' posted bus is range moved m weighed);
     reference_moves_no_point = λ point book book' posted bus r _ is range moved weighed priced.
-        point-stands _ _ _ _ (reference_stays posted bus book book') point r
-        (taken_so (base_case book) point.kind point.number (Weighed posted book) _ (is-moved deeds book book' posted bus is range moved) weighed) priced;
+        point_stands _ _ _ _ (reference_stays posted bus book book') point r
+        (taken_so (base_case book) point.kind point.number (Weighed posted book) _ (is_moved deeds book book' posted bus is range moved) weighed) priced;
     saved_text_is_accepted = all_back;
-    saved_hour_comes_back = come-back;
+    saved_hour_comes_back = come_back;
     saved_facts_come_back = λ first others resume is book book' left left' market m posted.
-        same_hour market m posted book book' (left ∙ sym (come-back first others resume is) ∙ sym left');
+        same_hour market m posted book book' (left ∙ sym (come_back first others resume is) ∙ sym left');
   }

@@ -28,33 +28,33 @@ and_false true c e = e
 and_false false c e = refl
 
 module _ (before behind : Book) (k b : ℕ) (on : Bool) (step : entries behind ≡ after (entries before) (Outage (pos k) (pos b) on)) where
-  bus-stays : (i : ℕ) → bus_at (entries behind) i ≡ bus_at (entries before) i
-  bus-stays i = ap (λ (h : Hour). bus_at h i) step ∙ laws.other_buses_stay (entries before) (Outage (pos k) (pos b) on) i (never_some (pos i))
+  bus_stays : (i : ℕ) → bus_at (entries behind) i ≡ bus_at (entries before) i
+  bus_stays i = ap (λ (h : Hour). bus_at h i) step ∙ laws.other_buses_stay (entries before) (Outage (pos k) (pos b) on) i (never_some (pos i))
 
   base_stays : (i : ℕ) → base_live (entries behind) DayAhead i ≡ base_live (entries before) DayAhead i
-  base_stays i = ap (is_live DayAhead) (bus-stays i)
+  base_stays i = ap (is_live DayAhead) (bus_stays i)
 
   -- the same live buses under a constraint make its case alike
-  alike-under : (k' : ℕ) → ((i : ℕ) → i < 256 → live_under (entries behind) k' i ≡ live_under (entries before) k' i)
+  alike_under : (k' : ℕ) → ((i : ℕ) → i < 256 → live_under (entries behind) k' i ≡ live_under (entries before) k' i)
       → Alike (view_of behind DayAhead (live_under (entries behind) k')) (view_of before DayAhead (live_under (entries before) k'))
-  alike-under k' live = record {
+  alike_under k' live = record {
     live = live;
-    hub_bus = λ i l _. ap (λ (x : Bus). x.hub_bus) (bus-stays i);
-    zone = λ i l _. ap (λ (x : Bus). x.zone) (bus-stays i);
-    load = λ i l _. ap (load_in DayAhead) (bus-stays i);
+    hub_bus = λ i l _. ap (λ (x : Bus). x.hub_bus) (bus_stays i);
+    zone = λ i l _. ap (λ (x : Bus). x.zone) (bus_stays i);
+    load = λ i l _. ap (load_in DayAhead) (bus_stays i);
   }
 
-  pub live-elsewhere : (k' : ℕ) → (k' ≡ k → ⊥) → (i : ℕ) → live_under (entries behind) k' i ≡ live_under (entries before) k' i
-  live-elsewhere k' other i =
+  pub live_elsewhere : (k' : ℕ) → (k' ≡ k → ⊥) → (i : ℕ) → live_under (entries behind) k' i ≡ live_under (entries before) k' i
+  live_elsewhere k' other i =
       let same : constraint_at (entries behind) k' ≡ constraint_at (entries before) k' =
       ap (λ (h : Hour). constraint_at h k') step
       ∙ laws.other_constraints_stay (entries before) (Outage (pos k) (pos b) on) k' (λ e. other (sym (same_number k k' e)))
       in
       ap₂ (λ (t : Bool) (c : Option Constraint). t && not (member (out_of c) i)) (base_stays i) same
 
-  pub live-of-dead : Granted (entries before) (Outage (pos k) (pos b) on) → base_live (entries before) DayAhead b ≡ false
+  pub live_of_dead : Granted (entries before) (Outage (pos k) (pos b) on) → base_live (entries before) DayAhead b ≡ false
       → (k' i : ℕ) → i < 256 → live_under (entries behind) k' i ≡ live_under (entries before) k' i
-  live-of-dead granted dead k' i low = ⊎_elim
+  live_of_dead granted dead k' i low = ⊎_elim
       (λ (live : base_live (entries before) DayAhead i ≡ true).
       let other : i ≡ b → ⊥ = λ same. both_ways (base_live (entries before) DayAhead i) (ap (base_live (entries before) DayAhead) same ∙ dead) live in
       let mark : is_out (entries behind) k' i ≡ is_out (entries before) k' i =
@@ -70,7 +70,7 @@ module _ (before behind : Book) (k b : ℕ) (on : Bool) (step : entries behind �
 pub mark_laws : (m : Meaning) → MarkLaws m
 mark_laws m = record {
   other_constraints_keep_weights = λ before behind k b on step k' b' other low.
-      m.alike_weigh_the_same _ _ (alike-under before behind k b on step k' (λ i l. live-elsewhere before behind k b on step k' other i)) b' low;
+      m.alike_weigh_the_same _ _ (alike_under before behind k b on step k' (λ i l. live_elsewhere before behind k b on step k' other i)) b' low;
   dead_marks_change_nothing = λ before behind k b on step granted dead k' b' low.
-      m.alike_weigh_the_same _ _ (alike-under before behind k b on step k' (λ i l. live-of-dead before behind k b on step granted dead k' i l)) b' low;
+      m.alike_weigh_the_same _ _ (alike_under before behind k b on step k' (λ i l. live_of_dead before behind k b on step granted dead k' i l)) b' low;
 }

@@ -7,7 +7,7 @@ use Rattle.weighting.specs.Sums.{sum_below}
 use Rattle.weighting.specs.SumLaws.{sum_same}
 use Rattle.weighting.specs.Views.{View}
 use Rattle.weighting.specs.Hubs.{unit, of_hub, live_of, hub_weight, live_hub_buses}
-use Rattle.weighting.specs.HubLaws.{of_hub_range, few_live, divides, part, elsewhere, column, hub-sum}
+use Rattle.weighting.specs.HubLaws.{of_hub_range, few_live, divides, part, elsewhere, column, hub_sum}
 use Rattle.weighting.specs.Shares.{HubShares}
 use Rattle.weighting.specs.declared.hubs.Hub.{Hub}
 
@@ -45,5 +45,5 @@ hub_shares hub v r is = record {
       (λ b low. ap (λ (x : ℕ). cond (eqb (v.hub_bus b) k) x 0) (is b low) ∙ of_column hub v k b of)
       ∙ column hub v k
       ∙ cond-true (of_hub hub k && ltb 0 (live_of v k)) unit 0 (and_from (of_hub hub k) (ltb 0 (live_of v k)) of (lt-ltb 0 (live_of v k) some));
-  all = sum_same (λ b. get_or r b 0) (hub_weight hub v) 256 is ∙ sym (hub-sum hub v);
+  all = sum_same (λ b. get_or r b 0) (hub_weight hub v) 256 is ∙ sym (hub_sum hub v);
 }

@@ -25,11 +25,11 @@ load_sound m b h =
     let day = nat_le b.day_ahead.load most_load in
     let real = nat_le b.real_time.load most_load in
     let loads = and_parts day real (and_parts area (day && real) (and_parts hub (area && (day && real)) h).1).1 in
-    by-market m b (leb-true b.day_ahead.load most_load loads.0) (leb-true b.real_time.load most_load loads.1)
+    by_market m b (leb-true b.day_ahead.load most_load loads.0) (leb-true b.real_time.load most_load loads.1)
   where
-    by-market : (m : Market) (b : Bus) → b.day_ahead.load ≤ most_load → b.real_time.load ≤ most_load → load_in m b ≤ most_load
-    by-market DayAhead b d r = d
-    by-market RealTime b d r = r
+    by_market : (m : Market) (b : Bus) → b.day_ahead.load ≤ most_load → b.real_time.load ≤ most_load → load_in m b ≤ most_load
+    by_market DayAhead b d r = d
+    by_market RealTime b d r = r
 
 no_load : (m : Market) → load_in m no_bus ≤ most_load
 no_load DayAhead = omega arith

@@ -117,8 +117,8 @@ module _ (hub : Hub) (v : View) where
       ∙ ap (λ (t : Bool). cond (t && nat_lt 0 (live_of v k)) unit 0) (sym no'))
       (cases_Bool (of_hub hub k))
 
-  pub hub-sum : hub_total hub v ≡ sum_below (hub_weight hub v) 256
-  hub-sum =
+  pub hub_sum : hub_total hub v ≡ sum_below (hub_weight hub v) 256
+  hub_sum =
       sym (sum_same (hub_weight hub v) (λ b. sum_below (part b) 156) 256 (λ b l. by_parts b)
       ∙ sum_swap part 156 256
       ∙ sum_same (λ k. sum_below (λ b. part b k) 256) (λ k. cond (of_hub hub k && nat_lt 0 (live_of v k)) unit 0) 156 (λ k l. column k)
@@ -148,7 +148,7 @@ hub_meaning hub = record {
   weight = hub_weight hub;
   total = hub_total hub;
   dead_weighs_nothing = λ v b low dead. cond-false (v.live b && of_hub hub (v.hub_bus b)) (unit / live_of v (v.hub_bus b)) 0 (ap (λ (t : Bool). t && of_hub hub (v.hub_bus b)) dead);
-  total_is_the_sum = hub-sum hub;
+  total_is_the_sum = hub_sum hub;
   total_is_bounded = λ v. omega (arith, count_most (λ k. of_hub hub k && nat_lt 0 (live_of v k)) 156);
   alike_weigh_the_same = hub_alike hub;
 }

@@ -1,8 +1,6 @@
 // Hours worked through by hand, priced and compared: each row has the hour, the point, and cents with origin or R with a refusal.
-// The first price is the proved one; that the rules give the worked prices is asserted with it.
 use hour::book::Book;
 use hour::records::Market as HourMarket;
-use numbers::half_up;
 use posting::Posting;
 use posting::reference::Reference;
 use posting::table::Table;
@@ -13,13 +11,10 @@ use pricing::real_time_market::RealTime;
 use refusals::Refusal;
 use std::io;
 use weighting::points::{Kind, Point};
-use worked_hours::worked_hours;
 
 fn main(rt: HostRuntime) -> io::Result<()> {
-    print_price(&rt, "example hour by its calls, North", worked_hours())?;
     example_hour(&rt)?;
     outages(&rt)?;
-    wrong_ways(&rt)?;
     dead_buses(&rt)?;
     moved_reference(&rt)?;
     halves(&rt)?;
@@ -88,20 +83,17 @@ fn print_price(
     }
 }
 
-fn day_ahead(book: &Book, point: Point) -> Result<(i64, Origin), Refusal> {
+fn print_day_ahead(rt: &HostRuntime, row: &str, book: &Book, point: Point) -> io::Result<()> {
     let factors = example_factors();
     let table = Table::over(&factors);
     let market = DayAhead {
         book,
         posting: &table,
     };
-    point_price(&market, point)
+    print_price(rt, row, point_price(&market, point))
 }
 
-fn print_day_ahead(rt: &HostRuntime, row: &str, book: &Book, point: Point) -> io::Result<()> {
-    print_price(rt, row, day_ahead(book, point))
-}
-
+// Averaging over the buses would give North 2267 here.
 fn example_hour(rt: &HostRuntime) -> io::Result<()> {
     let book = example_book();
     for number in 1..8i64 {
@@ -111,6 +103,7 @@ fn example_hour(rt: &HostRuntime) -> io::Result<()> {
     print_day_ahead(rt, "example hour, zone 2", &book, zone(2))
 }
 
+// Dividing by the base count would give North 2425 in the first row.
 fn outages(rt: &HostRuntime) -> io::Result<()> {
     let mut book = example_book();
     let _ = book.set_outage(0, 0, true);
@@ -118,44 +111,6 @@ fn outages(rt: &HostRuntime) -> io::Result<()> {
     let _ = book.set_outage(0, 1, true);
     let _ = book.set_outage(0, 2, true);
     print_day_ahead(rt, "buses 0 to 2 out under 0, North", &book, hub(1))
-}
-
-// Two ways to misprice North: averaging over its three buses in place of its two hub buses, and, where bus 0 is out, still
-// counting the hub bus that has no live bus under the constraint.
-fn wrong_ways(rt: &HostRuntime) -> io::Result<()> {
-    let mut book = example_book();
-    let over_buses = half_up(3 * 2_500_000_000 - 1_000 * 700_000, 3_000_000);
-    print_wrong(
-        rt,
-        "averaged over buses, North",
-        day_ahead(&book, hub(1)),
-        over_buses,
-    )?;
-    let _ = book.set_outage(0, 0, true);
-    let by_base_count = half_up(2 * 2_500_000_000 - 1_000 * 150_000, 2_000_000);
-    print_wrong(
-        rt,
-        "bus 0 out, by the base count, North",
-        day_ahead(&book, hub(1)),
-        by_base_count,
-    )
-}
-
-// Whether the price is what the wrong way gives.
-fn print_wrong(
-    rt: &HostRuntime,
-    row: &str,
-    price: Result<(i64, Origin), Refusal>,
-    wrong: Option<i128>,
-) -> io::Result<()> {
-    let (Ok((cents, _)), Some(wrong)) = (price, wrong) else {
-        return println!(rt; "{row}: no price");
-    };
-    if cents as i128 == wrong {
-        println!(rt; "{row}: {wrong} comes out")
-    } else {
-        println!(rt; "{row}: {wrong} does not come out")
-    }
 }
 
 fn dead_buses(rt: &HostRuntime) -> io::Result<()> {

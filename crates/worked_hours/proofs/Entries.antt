@@ -67,14 +67,14 @@ by_lambda book posted m (Some lambda) = refl
 
 module _ (h : Hour) (posted : Grid) (holds : (Meaning → Result ℤ Refusal) → Type 0) where
   -- what holds of the day-ahead prices over these entries holds at every book that has them
-  pub day-ahead-at : ((loads : Loads h) (few : Few h) → holds (day_ahead_of h loads few posted)) →
+  pub day_ahead_at : ((loads : Loads h) (few : Few h) → holds (day_ahead_of h loads few posted)) →
       (book : Book) → entries book ≡ h → holds (λ m. day_ahead_price m posted book)
-  day-ahead-at over book e =
+  day_ahead_at over book e =
       subst holds (fun_ext (λ m. by_lambda book posted m book.lambda))
       (subst (λ (i : Hour). (loads : Loads i) (few : Few i) → holds (day_ahead_of i loads few posted)) (sym e) over (load_most book) (few_members book))
 
   -- and so for real-time prices
-  pub real-time-at : ((loads : Loads h) (few : Few h) → holds (real_time_of h loads few posted)) →
+  pub real_time_at : ((loads : Loads h) (few : Few h) → holds (real_time_of h loads few posted)) →
       (book : Book) → entries book ≡ h → holds (λ m. real_time_price m posted book)
-  real-time-at over book e =
+  real_time_at over book e =
       subst (λ (i : Hour). (loads : Loads i) (few : Few i) → holds (real_time_of i loads few posted)) (sym e) over (load_most book) (few_members book)

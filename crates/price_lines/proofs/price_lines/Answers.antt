@@ -3,7 +3,7 @@ use Rattle.hour.specs.Hour.{entries}
 use Rattle.page.specs.Copies.{Copies}
 use Rattle.price_lines.specs.Lines.{day_ahead, price_lines}
 use Rattle.price_lines.specs.Shown.{Shows}
-use Rattle.price_lines.proofs.Shown.{lines-show, copied_show}
+use Rattle.price_lines.proofs.Shown.{lines_show, copied_show}
 use Rattle.price_lines.proofs.price_lines.Goals as goal
 
 pub returns : goal.returns
@@ -17,5 +17,5 @@ returns g c =
       text = copies;
       shown =
           copied_show (Shows (day_ahead book factors) (entries book)) (price_lines book factors) c.args.out.now c.copy-to.new.out c.copy-to.result
-          (lines-show (day_ahead book factors) (entries book)) copies;
+          (lines_show (day_ahead book factors) (entries book)) copies;
     }

@@ -4,7 +4,7 @@ use Rattle.std.proofs.lemmas.Int.{ints, to_z-of_z}
 use Rattle.posting.specs.Grids.{Within}
 use Rattle.weighting.specs.Views.{view}
 use Rattle.day_ahead.proofs.Factors.{fits_within, times_is}
-use Rattle.day_ahead.proofs.Congestion.{congestion-is, round-within}
+use Rattle.day_ahead.proofs.Congestion.{congestion_is, round_within}
 use Rattle.day_ahead.proofs.contributions.congested.Goals as goal
 
 pub returns : goal.returns
@@ -19,8 +19,8 @@ returns g c =
     let price : to_z w64 (of_z w64 c.args.shadow-price) ≡ c.args.shadow-price = omega (arith, ints, c.requires) in
     let sum = to_z-of_z w64 c.weighted-factors-sum.result (fits_within c.weighted-factors-sum.ensures.bound) in
     record {
-      value = out ∙ congestion-is m p v c.args.k c.args.shadow-price c.total-total.ensures c.if-total-eq0.false c.weighted-factors-sum.ensures.value
+      value = out ∙ congestion_is m p v c.args.k c.args.shadow-price c.total-total.ensures c.if-total-eq0.false c.weighted-factors-sum.ensures.value
           (wide ∙ times_is c.valued.ensures.value sum price) c.rounded.ensures.value;
       bound = subst (Within 6000000000000000000) (sym out)
-          (round-within m p v c.total-total.ensures c.if-total-eq0.false (subst (Within 5120000000000000000) (sym wide) c.valued.ensures.bound) c.rounded.ensures.value);
+          (round_within m p v c.total-total.ensures c.if-total-eq0.false (subst (Within 5120000000000000000) (sym wide) c.valued.ensures.bound) c.rounded.ensures.value);
     }

@@ -2,7 +2,7 @@ use Rattle.std.proofs.Common.{sym, arith}
 use Rattle.std.proofs.lemmas.Int.{ints}
 use Rattle.day_ahead.specs.Prices.{contribution}
 use Rattle.day_ahead.proofs.Bounds.{within_zero}
-use Rattle.numbers.proofs.Sums.{sum_z_none, sum_z_more}
+use Rattle.day_ahead.proofs.Sums.{sum_z_none, sum_z_more}
 use Rattle.day_ahead.proofs.contributions.contributions.Goals as goal
 
 pub loop-k-init : goal.loop-k-init

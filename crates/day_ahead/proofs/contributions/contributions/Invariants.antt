@@ -1,6 +1,6 @@
 use Rattle.std.proofs.Common.{◌≡◌, ◌*◌}
 use Rattle.posting.specs.Grids.{Within}
-use Rattle.numbers.specs.Sums.{sum_z}
+use Rattle.day_ahead.specs.Sums.{sum_z}
 use Rattle.day_ahead.specs.Prices.{contribution}
 use Rattle.day_ahead.proofs.contributions.contributions.Given as goal
 

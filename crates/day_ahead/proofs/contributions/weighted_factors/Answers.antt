@@ -2,9 +2,9 @@ use Rattle.std.proofs.Common.{◌≡◌, ◌+◌, pos, ◌*ℤ◌, sym, ap, ◌�
 use Rattle.std.proofs.lemmas.Int.{ints, to_z-of_z}
 use Rattle.posting.specs.Grids.{Within}
 use Rattle.weighting.specs.Views.{view}
-use Rattle.numbers.specs.Sums.{sum_z}
-use Rattle.numbers.proofs.Sums.{sum_z_none, sum_z_added}
-use Rattle.day_ahead.proofs.Factors.{weight-most, factors-within, fits_within, product_fits, term_is}
+use Rattle.day_ahead.specs.Sums.{sum_z}
+use Rattle.day_ahead.proofs.Sums.{sum_z_none, sum_z_added}
+use Rattle.day_ahead.proofs.Factors.{weight_most, factors_within, fits_within, product_fits, term_is}
 use Rattle.day_ahead.proofs.contributions.weighted_factors.Goals as goal
 
 pub loop-bus-init : goal.loop-bus-init
@@ -17,7 +17,7 @@ product-sum-requires g c =
     let b = c.loop-bus.bus in
     let at = (g.P.Posting.grid c.args.posting.now).within b c.args.column in
     record {
-      small = omega (arith, c.weights-weights.ensures b c.loop-bus-test.true, weight-most m v b c.loop-bus-test.true);
+      small = omega (arith, c.weights-weights.ensures b c.loop-bus-test.true, weight_most m v b c.loop-bus-test.true);
       within = record { low = omega (arith, ints, c.number.ensures, at.low, at.high); high = omega (arith, ints, c.number.ensures, at.low, at.high) };
     }
 
@@ -32,8 +32,8 @@ overflow-add-sum g c =
     let at = p.within b k in
     let number : to_z w32 (of_z w32 c.number.result) ≡ p.at b k = omega (arith, ints, c.number.ensures, at.low, at.high) in
     let term : c.product-sum.result ≡ pos (m.weight v b) *ℤ p.at b k = term_is c.product-sum.ensures (c.weights-weights.ensures b low) number in
-    let fits : SFits w64 c.product-sum.result = subst (SFits w64) (sym term) (product_fits (m.weight v b) (p.at b k) (omega (arith, weight-most m v b low)) at) in
-    subst (SFits w64) (sym (sum_z_added (λ b. pos (m.weight v b) *ℤ p.at b k) b c.loop-bus.invariant (to_z-of_z w64 _ fits ∙ term))) (fits_within (factors-within m v p k (b + 1) (omega arith)))
+    let fits : SFits w64 c.product-sum.result = subst (SFits w64) (sym term) (product_fits (m.weight v b) (p.at b k) (omega (arith, weight_most m v b low)) at) in
+    subst (SFits w64) (sym (sum_z_added (λ b. pos (m.weight v b) *ℤ p.at b k) b c.loop-bus.invariant (to_z-of_z w64 _ fits ∙ term))) (fits_within (factors_within m v p k (b + 1) (omega arith)))
 
 pub loop-bus-preserved : goal.loop-bus-preserved
 loop-bus-preserved g c =
@@ -46,7 +46,7 @@ loop-bus-preserved g c =
     let at = p.within b k in
     let number : to_z w32 (of_z w32 c.number.result) ≡ p.at b k = omega (arith, ints, c.number.ensures, at.low, at.high) in
     let term : c.product-sum.result ≡ pos (m.weight v b) *ℤ p.at b k = term_is c.product-sum.ensures (c.weights-weights.ensures b low) number in
-    let fits : SFits w64 c.product-sum.result = subst (SFits w64) (sym term) (product_fits (m.weight v b) (p.at b k) (omega (arith, weight-most m v b low)) at) in
+    let fits : SFits w64 c.product-sum.result = subst (SFits w64) (sym term) (product_fits (m.weight v b) (p.at b k) (omega (arith, weight_most m v b low)) at) in
     to_z-of_z w64 _ (overflow-add-sum g c) ∙ sum_z_added (λ b. pos (m.weight v b) *ℤ p.at b k) b c.loop-bus.invariant (to_z-of_z w64 _ fits ∙ term)
 
 pub returns : goal.returns
@@ -57,4 +57,4 @@ returns g c =
     let k = c.args.column in
     let end : c.loop-bus.bus ≡ 256 = omega arith in
     let sum = c.loop-bus.invariant ∙ ap (sum_z (λ b. pos (m.weight v b) *ℤ p.at b k)) end in
-    record { value = sum; bound = subst (Within 5120000000000) (sym sum) (factors-within m v p k 256 (omega arith)) }
+    record { value = sum; bound = subst (Within 5120000000000) (sym sum) (factors_within m v p k 256 (omega arith)) }

@@ -1,6 +1,6 @@
 use Rattle.std.proofs.Common.{◌≡◌, pos, ◌*ℤ◌}
 use Rattle.weighting.specs.Views.{view}
-use Rattle.numbers.specs.Sums.{sum_z}
+use Rattle.day_ahead.specs.Sums.{sum_z}
 use Rattle.day_ahead.proofs.contributions.weighted_factors.Given as goal
 
 abbrev pub invariant-loop-bus : goal.invariant-loop-bus

@@ -1,7 +1,7 @@
 use Rattle.std.proofs.Common.{Err, sym, refl, ap, ◌∙◌, arith}
 use Rattle.std.proofs.lemmas.Result.{err_from_is_err_and}
 use Rattle.posting_text.specs.Texts.{checking}
-use Rattle.posting_text.proofs.Turning.{turn-shorter, turn_on, turn-stops, check_none}
+use Rattle.posting_text.proofs.Turning.{turn_shorter, turn_on, turn_stops, check_none}
 use Rattle.posting_text.proofs.checking.count_lines.Goals as goal
 
 pub loop-rest-init : goal.loop-rest-init
@@ -12,15 +12,15 @@ pub returns-in-err-rest : goal.returns-in-err-rest
 returns-in-err-rest c =
     let p = err_from_is_err_and c.from-residual.result c.from-residual.ensures.1 in
     p.1 ∙ ap Err p.2
-    ∙ sym (turn-stops c.loop-rest.count c.loop-rest.rest.now c.past-line.result c.past-line.ensures c.loop-rest-test.ensures _ c.in-err-rest.ensures)
+    ∙ sym (turn_stops c.loop-rest.count c.loop-rest.rest.now c.past-line.result c.past-line.ensures c.loop-rest-test.ensures _ c.in-err-rest.ensures)
     ∙ c.loop-rest.invariant.0
 
 pub loop-rest-smaller : goal.loop-rest-smaller
-loop-rest-smaller c = turn-shorter c.loop-rest.count c.loop-rest.rest.now c.past-line.result c.past-line.ensures _ c.in-ok-rest.ensures
+loop-rest-smaller c = turn_shorter c.loop-rest.count c.loop-rest.rest.now c.past-line.result c.past-line.ensures _ c.in-ok-rest.ensures
 
 pub loop-rest-preserved : goal.loop-rest-preserved
 loop-rest-preserved c =
-    let less = turn-shorter c.loop-rest.count c.loop-rest.rest.now c.past-line.result c.past-line.ensures _ c.in-ok-rest.ensures in (
+    let less = turn_shorter c.loop-rest.count c.loop-rest.rest.now c.past-line.result c.past-line.ensures _ c.in-ok-rest.ensures in (
       sym (turn_on c.loop-rest.count c.loop-rest.rest.now c.past-line.result c.past-line.ensures c.loop-rest-test.ensures _ c.in-ok-rest.ensures) ∙ c.loop-rest.invariant.0,
       omega (arith, c.loop-rest.invariant.1),
     )

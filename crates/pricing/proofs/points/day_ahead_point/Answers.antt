@@ -1,6 +1,6 @@
 use Rattle.day_ahead.specs.Prices.{day_ahead_price}
 use Rattle.pricing.specs.Points.{PricedAt}
-use Rattle.pricing.proofs.Standing.{point-stands}
+use Rattle.pricing.proofs.Standing.{point_stands}
 use Rattle.pricing.proofs.Deciding.{live_facts_decide, reference_stays}
 use Rattle.pricing.proofs.points.day_ahead_point.Goals as goal
 
@@ -11,6 +11,6 @@ returns g c =
     let priced : PricedAt (λ m. day_ahead_price m p book) c.args.point c.point-price.result = c.point-price.ensures in
     record {
       value = priced;
-      facts = λ other q facts. point-stands _ _ _ _ (live_facts_decide p q book other) c.args.point _ facts priced;
-      reference = λ bus _ other moved. point-stands _ _ _ _ (reference_stays p bus book other) c.args.point _ moved priced;
+      facts = λ other q facts. point_stands _ _ _ _ (live_facts_decide p q book other) c.args.point _ facts priced;
+      reference = λ bus _ other moved. point_stands _ _ _ _ (reference_stays p bus book other) c.args.point _ moved priced;
     }

@@ -1,6 +1,6 @@
 use Rattle.real_time.specs.Prices.{real_time_price}
 use Rattle.pricing.specs.Points.{PricedAt}
-use Rattle.pricing.proofs.Standing.{point-stands}
+use Rattle.pricing.proofs.Standing.{point_stands}
 use Rattle.pricing.proofs.Deciding.{same_facts_decide}
 use Rattle.pricing.proofs.points.real_time_point.Goals as goal
 
@@ -11,5 +11,5 @@ returns g c =
     let priced : PricedAt (λ m. real_time_price m p book) c.args.point c.point-price.result = c.point-price.ensures in
     record {
       value = priced;
-      facts = λ other q facts. point-stands _ _ _ _ (same_facts_decide p q book other) c.args.point _ facts priced;
+      facts = λ other q facts. point_stands _ _ _ _ (same_facts_decide p q book other) c.args.point _ facts priced;
     }

@@ -1,10 +1,10 @@
 use Rattle.std.proofs.Common.{◌≡◌, ℕ, ℤ, sym, ap, ◌∙◌, arith}
 use Rattle.std.proofs.lemmas.Int.{ints}
 use Rattle.hour.specs.Hour.{entries, run_at}
-use Rattle.numbers.specs.Sums.{sum_z}
+use Rattle.real_time.specs.Sums.{sum_z}
 use Rattle.real_time.specs.Weights.{weight_in}
 use Rattle.real_time.specs.Prices.{run_part}
-use Rattle.numbers.proofs.Sums.{sum_z_none, sum_z_more}
+use Rattle.real_time.proofs.Sums.{sum_z_none, sum_z_more}
 use Rattle.real_time.proofs.prices.hour_sum.Goals as goal
 
 pub loop-column-init : goal.loop-column-init

@@ -2,7 +2,7 @@ use Rattle.std.proofs.Common.{◌≡◌, ℤ, sym, ap, ◌∙◌, w64, SFits, to
 use mir.Syntax.{w128}
 use Rattle.std.proofs.lemmas.Int.{to_z-of_z}
 use Rattle.real_time.specs.Prices.{cents_of}
-use Rattle.real_time.proofs.Laws.{not-900, light, no-weight, granted, nearest, same_facts}
+use Rattle.real_time.proofs.Laws.{not_900, light, no_weight, granted, nearest, same_facts}
 use Rattle.real_time.proofs.prices.real_time_price.Goals as goal
 
 pub returns-then-not-fills-interval : goal.returns-then-not-fills-interval
@@ -10,7 +10,7 @@ returns-then-not-fills-interval g c =
     let m = g.W.Weighting.meaning c.args.weighting.now in
     let p = g.P.Posting.grid c.args.posting.now in
     let book = c.args.book.now in
-    let value = not-900 m p book (sym c.fills-interval.ensures ∙ c.if-not-fills-interval.true) in
+    let value = not_900 m p book (sym c.fills-interval.ensures ∙ c.if-not-fills-interval.true) in
     record { value = sym value; nearest = tt; facts = λ q b same. sym (same_facts m p q book b same) ∙ value }
 
 pub hour-sum-sum-requires : goal.hour-sum-sum-requires
@@ -46,5 +46,5 @@ returns-in-None g c =
     let p = g.P.Posting.grid c.args.posting.now in
     let book = c.args.book.now in
     let filled = sym c.fills-interval.ensures ∙ c.if-not-fills-interval.false in
-    let value = no-weight m p book c.base-weights-weights.result c.base-weights-weights.ensures c.hour-sum-sum.result c.hour-sum-sum.ensures.value filled c.in-None.ensures in
+    let value = no_weight m p book c.base-weights-weights.result c.base-weights-weights.ensures c.hour-sum-sum.result c.hour-sum-sum.ensures.value filled c.in-None.ensures in
     record { value = sym value; nearest = tt; facts = λ q b same. sym (same_facts m p q book b same) ∙ value }

@@ -5,7 +5,7 @@ use Rattle.hour.specs.Sound.{run_sound}
 use Rattle.hour.specs.declared.records.Run.{Run}
 use Rattle.posting.specs.Grids.{Within}
 use Rattle.real_time.proofs.Bounds.{within_by}
-use Rattle.real_time.proofs.Widths.{added-on-fits, raised-fits, timed-fits, part-is, part-within}
+use Rattle.real_time.proofs.Widths.{added_on_fits, raised_fits, timed_fits, part_is, part_within}
 use Rattle.real_time.proofs.prices.weighed_run.Goals as goal
 
 adders : (run : Run) → run_sound run ≡ true → Within 1000000 run.reserve_adder × Within 1000000 run.reliability_adder
@@ -20,21 +20,21 @@ overflow-mul-result c =
     let run = c.args.run in
     let both = adders run c.requires.run in
     let seconds : run.seconds < 65536 = search rules in
-    added-on-fits c.args.prices c.args.total run.reserve_adder run.reliability_adder run.seconds c.requires.prices c.requires.total both.0 both.1 seconds
+    added_on_fits c.args.prices c.args.total run.reserve_adder run.reliability_adder run.seconds c.requires.prices c.requires.total both.0 both.1 seconds
 
 pub overflow-add-result : goal.overflow-add-result
 overflow-add-result c =
     let run = c.args.run in
     let both = adders run c.requires.run in
     let seconds : run.seconds < 65536 = search rules in
-    raised-fits c.args.prices c.args.total run.reserve_adder run.reliability_adder run.seconds c.requires.prices c.requires.total both.0 both.1 seconds
+    raised_fits c.args.prices c.args.total run.reserve_adder run.reliability_adder run.seconds c.requires.prices c.requires.total both.0 both.1 seconds
 
 pub overflow-mul-result-2 : goal.overflow-mul-result-2
 overflow-mul-result-2 c =
     let run = c.args.run in
     let both = adders run c.requires.run in
     let seconds : run.seconds < 65536 = search rules in
-    timed-fits c.args.prices c.args.total run.reserve_adder run.reliability_adder run.seconds c.requires.prices c.requires.total both.0 both.1 seconds
+    timed_fits c.args.prices c.args.total run.reserve_adder run.reliability_adder run.seconds c.requires.prices c.requires.total both.0 both.1 seconds
 
 pub returns : goal.returns
 returns c =
@@ -42,6 +42,6 @@ returns c =
     let both = adders run c.requires.run in
     let seconds : run.seconds < 65536 = search rules in
     record {
-      value = part-is c.args.prices c.args.total run.reserve_adder run.reliability_adder run.seconds c.requires.prices c.requires.total both.0 both.1 seconds;
-      bound = part-within c.args.prices c.args.total run.reserve_adder run.reliability_adder run.seconds c.requires.prices c.requires.total both.0 both.1 seconds;
+      value = part_is c.args.prices c.args.total run.reserve_adder run.reliability_adder run.seconds c.requires.prices c.requires.total both.0 both.1 seconds;
+      bound = part_within c.args.prices c.args.total run.reserve_adder run.reliability_adder run.seconds c.requires.prices c.requires.total both.0 both.1 seconds;
     }

@@ -1,5 +1,5 @@
 use Rattle.std.proofs.Common.{◌≡◌, pos, ◌*ℤ◌}
-use Rattle.numbers.specs.Sums.{sum_z}
+use Rattle.real_time.specs.Sums.{sum_z}
 use Rattle.real_time.specs.Weights.{weight_in}
 use Rattle.real_time.proofs.prices.weighted_price_sum.Given as goal
 

@@ -2,7 +2,7 @@ use Rattle.std.proofs.Common.{[], ◌∷◌, Err, sym, ap, ◌∙◌}
 use Rattle.std.proofs.lemmas.Result.{err_from_is_err_and}
 use Rattle.decimals.specs.Decimals.{decimal_of}
 use Rattle.cuts.specs.Fields.{status_of, end}
-use Rattle.cuts.proofs.Taking.{take-field, stuck-field, end-further}
+use Rattle.cuts.proofs.Taking.{take_field, stuck_field, end_further}
 use Rattle.saved.proofs.line.read_bus.Goals as goal
 
 pub returns : goal.returns
@@ -18,13 +18,13 @@ returns c =
       ap (λ l. (66 ∷ []) ∷ l) (sym all),
       (
         _,
-        take-field decimal_of 2 _ _ _ _ _ bus.0 bus.1.1
-            ∙ take-field decimal_of 3 _ _ _ _ _ hub-bus.0 hub-bus.1.1
-            ∙ take-field decimal_of 4 _ _ _ _ _ zone.0 zone.1.1
-            ∙ take-field status_of 5 _ _ _ _ _ day-ahead-status.0 day-ahead-status.1.1
-            ∙ take-field decimal_of 6 _ _ _ _ _ day-ahead-load.0 day-ahead-load.1.1
-            ∙ take-field status_of 7 _ _ _ _ _ real-time-status.0 real-time-status.1.1
-            ∙ take-field decimal_of 8 _ _ _ _ _ real-time-load.0 real-time-load.1.1 ∙ ap (end 9 _) c.in-ok-end.ensures,
+        take_field decimal_of 2 _ _ _ _ _ bus.0 bus.1.1
+            ∙ take_field decimal_of 3 _ _ _ _ _ hub-bus.0 hub-bus.1.1
+            ∙ take_field decimal_of 4 _ _ _ _ _ zone.0 zone.1.1
+            ∙ take_field status_of 5 _ _ _ _ _ day-ahead-status.0 day-ahead-status.1.1
+            ∙ take_field decimal_of 6 _ _ _ _ _ day-ahead-load.0 day-ahead-load.1.1
+            ∙ take_field status_of 7 _ _ _ _ _ real-time-status.0 real-time-status.1.1
+            ∙ take_field decimal_of 8 _ _ _ _ _ real-time-load.0 real-time-load.1.1 ∙ ap (end 9 _) c.in-ok-end.ensures,
       ),
     )
 
@@ -37,13 +37,13 @@ returns-in-err-real-time-load c =
     let day-ahead-load = c.in-ok-day-ahead-load.ensures in
     let real-time-status = c.in-ok-real-time-status.ensures in
     let p = err_from_is_err_and c.from-residual-in-err-real-time-load.result c.from-residual-in-err-real-time-load.ensures.1 in
-    rw (p.1, p.2) (take-field decimal_of 2 _ _ _ _ _ bus.0 bus.1.1
-    ∙ take-field decimal_of 3 _ _ _ _ _ hub-bus.0 hub-bus.1.1
-    ∙ take-field decimal_of 4 _ _ _ _ _ zone.0 zone.1.1
-    ∙ take-field status_of 5 _ _ _ _ _ day-ahead-status.0 day-ahead-status.1.1
-    ∙ take-field decimal_of 6 _ _ _ _ _ day-ahead-load.0 day-ahead-load.1.1
-    ∙ take-field status_of 7 _ _ _ _ _ real-time-status.0 real-time-status.1.1
-    ∙ stuck-field decimal_of 8 _ _ c.in-err-real-time-load.ensures.1 ∙ ap Err (sym c.in-err-real-time-load.ensures.0))
+    rw (p.1, p.2) (take_field decimal_of 2 _ _ _ _ _ bus.0 bus.1.1
+    ∙ take_field decimal_of 3 _ _ _ _ _ hub-bus.0 hub-bus.1.1
+    ∙ take_field decimal_of 4 _ _ _ _ _ zone.0 zone.1.1
+    ∙ take_field status_of 5 _ _ _ _ _ day-ahead-status.0 day-ahead-status.1.1
+    ∙ take_field decimal_of 6 _ _ _ _ _ day-ahead-load.0 day-ahead-load.1.1
+    ∙ take_field status_of 7 _ _ _ _ _ real-time-status.0 real-time-status.1.1
+    ∙ stuck_field decimal_of 8 _ _ c.in-err-real-time-load.ensures.1 ∙ ap Err (sym c.in-err-real-time-load.ensures.0))
 
 pub returns-in-err-end : goal.returns-in-err-end
 returns-in-err-end c =
@@ -55,11 +55,11 @@ returns-in-err-end c =
     let real-time-status = c.in-ok-real-time-status.ensures in
     let real-time-load = c.in-ok-real-time-load.ensures in
     let p = err_from_is_err_and c.from-residual-in-err-end.result c.from-residual-in-err-end.ensures.1 in
-    rw (p.1, p.2) (take-field decimal_of 2 _ _ _ _ _ bus.0 bus.1.1
-    ∙ take-field decimal_of 3 _ _ _ _ _ hub-bus.0 hub-bus.1.1
-    ∙ take-field decimal_of 4 _ _ _ _ _ zone.0 zone.1.1
-    ∙ take-field status_of 5 _ _ _ _ _ day-ahead-status.0 day-ahead-status.1.1
-    ∙ take-field decimal_of 6 _ _ _ _ _ day-ahead-load.0 day-ahead-load.1.1
-    ∙ take-field status_of 7 _ _ _ _ _ real-time-status.0 real-time-status.1.1
-    ∙ take-field decimal_of 8 _ _ _ _ _ real-time-load.0 real-time-load.1.1
-    ∙ end-further 9 _ _ c.in-err-end.ensures.1 ∙ ap Err (sym c.in-err-end.ensures.0))
+    rw (p.1, p.2) (take_field decimal_of 2 _ _ _ _ _ bus.0 bus.1.1
+    ∙ take_field decimal_of 3 _ _ _ _ _ hub-bus.0 hub-bus.1.1
+    ∙ take_field decimal_of 4 _ _ _ _ _ zone.0 zone.1.1
+    ∙ take_field status_of 5 _ _ _ _ _ day-ahead-status.0 day-ahead-status.1.1
+    ∙ take_field decimal_of 6 _ _ _ _ _ day-ahead-load.0 day-ahead-load.1.1
+    ∙ take_field status_of 7 _ _ _ _ _ real-time-status.0 real-time-status.1.1
+    ∙ take_field decimal_of 8 _ _ _ _ _ real-time-load.0 real-time-load.1.1
+    ∙ end_further 9 _ _ c.in-err-end.ensures.1 ∙ ap Err (sym c.in-err-end.ensures.0))

@@ -1,7 +1,7 @@
 use Rattle.std.proofs.Common.{[], ◌∷◌, sym, ap, ◌∙◌}
 use Rattle.decimals.specs.Decimals.{decimal_of}
 use Rattle.cuts.specs.Fields.{end}
-use Rattle.cuts.proofs.Taking.{take-field}
+use Rattle.cuts.proofs.Taking.{take_field}
 use Rattle.saved.proofs.line.read_constraint.Goals as goal
 
 pub returns : goal.returns
@@ -12,7 +12,7 @@ returns c =
       ap (λ l. (67 ∷ []) ∷ l) (sym all),
       (
         _,
-        take-field decimal_of 2 _ _ _ _ _ constraint.0 constraint.1.1
-            ∙ take-field decimal_of 3 _ _ _ _ _ shadow-price.0 shadow-price.1.1 ∙ ap (end 4 _) c.in-ok-end.ensures,
+        take_field decimal_of 2 _ _ _ _ _ constraint.0 constraint.1.1
+            ∙ take_field decimal_of 3 _ _ _ _ _ shadow-price.0 shadow-price.1.1 ∙ ap (end 4 _) c.in-ok-end.ensures,
       ),
     )

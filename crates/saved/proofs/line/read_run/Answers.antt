@@ -1,7 +1,7 @@
 use Rattle.std.proofs.Common.{[], ◌∷◌, sym, ap, ◌∙◌}
 use Rattle.decimals.specs.Decimals.{decimal_of}
 use Rattle.cuts.specs.Fields.{end}
-use Rattle.cuts.proofs.Taking.{take-field}
+use Rattle.cuts.proofs.Taking.{take_field}
 use Rattle.saved.proofs.line.read_run.Goals as goal
 
 pub returns : goal.returns
@@ -14,9 +14,9 @@ returns c =
       ap (λ l. (82 ∷ []) ∷ l) (sym all),
       (
         _,
-        take-field decimal_of 2 _ _ _ _ _ run.0 run.1.1
-            ∙ take-field decimal_of 3 _ _ _ _ _ seconds.0 seconds.1.1
-            ∙ take-field decimal_of 4 _ _ _ _ _ reserve-adder.0 reserve-adder.1.1
-            ∙ take-field decimal_of 5 _ _ _ _ _ reliability-adder.0 reliability-adder.1.1 ∙ ap (end 6 _) c.in-ok-end.ensures,
+        take_field decimal_of 2 _ _ _ _ _ run.0 run.1.1
+            ∙ take_field decimal_of 3 _ _ _ _ _ seconds.0 seconds.1.1
+            ∙ take_field decimal_of 4 _ _ _ _ _ reserve-adder.0 reserve-adder.1.1
+            ∙ take_field decimal_of 5 _ _ _ _ _ reliability-adder.0 reliability-adder.1.1 ∙ ap (end 6 _) c.in-ok-end.ensures,
       ),
     )

@@ -8,7 +8,7 @@ use Rattle.saved_rows.specs.declared.stage.Stage.TheVariants as stage
 use Rattle.saved_rows.specs.Running.{place}
 use Rattle.saved.specs.Texts.{line_end}
 use Rattle.saved.specs.Reading.{read_from}
-use Rattle.saved.proofs.Turns.{at_done, on-err, on_row, after-err, after-ok, read_end, after_length}
+use Rattle.saved.proofs.Turns.{at_done, on_err, on_row, after_err, after_ok, read_end, after_length}
 use Rattle.saved.proofs.reading.read_lines.Goals as goal
 
 pub loop-rest-init : goal.loop-rest-init
@@ -24,7 +24,7 @@ pub returns-in-err-row : goal.returns-in-err-row
 returns-in-err-row c =
     let p = err_from_is_err_and c.from-residual.result c.from-residual.ensures.1 in
     rw (p.1, p.2) (sym c.loop-rest.invariant.0
-    ∙ on-err (place c.loop-rest.stage (entries c.loop-rest.book)) c.loop-rest.line c.loop-rest.rest.now c.loop-rest-test.ensures _ c.cut.result.0.now c.read-row.result
+    ∙ on_err (place c.loop-rest.stage (entries c.loop-rest.book)) c.loop-rest.line c.loop-rest.rest.now c.loop-rest-test.ensures _ c.cut.result.0.now c.read-row.result
     c.in-err-row.field-0.0 refl c.if-is-done.ensures c.cut.ensures.front c.read-row.ensures c.in-err-row.ensures)
 
 pub returns-in-default : goal.returns-in-default
@@ -42,7 +42,7 @@ returns-in-err-stage c =
     rw (p.1, p.2) (sym c.loop-rest.invariant.0
     ∙ on_row (place c.loop-rest.stage (entries c.loop-rest.book)) c.loop-rest.line c.loop-rest.rest.now c.loop-rest-test.ensures _ c.cut.result.0.now c.read-row.result
     c.in-ok-row.row e c.if-is-done.ensures c.cut.ensures.front c.read-row.ensures c.in-ok-row.ensures
-    ∙ after-err (place c.loop-rest.stage (entries c.loop-rest.book)) c.loop-rest.line c.in-Some.next.now c.in-ok-row.row (entries c.take.new.book) c.take.result
+    ∙ after_err (place c.loop-rest.stage (entries c.loop-rest.book)) c.loop-rest.line c.in-Some.next.now c.in-ok-row.row (entries c.take.new.book) c.take.result
     c.in-err-stage.field-0.0 c.take.ensures.value c.in-err-stage.ensures)
 
 pub loop-rest-smaller : goal.loop-rest-smaller
@@ -56,7 +56,7 @@ loop-rest-preserved c =
     let l = after_length c.loop-rest.rest.now c.in-Some.next.now e in (
       sym (on_row (place c.loop-rest.stage (entries c.loop-rest.book)) c.loop-rest.line c.loop-rest.rest.now c.loop-rest-test.ensures _ c.cut.result.0.now c.read-row.result
           c.in-ok-row.row e c.if-is-done.ensures c.cut.ensures.front c.read-row.ensures c.in-ok-row.ensures
-          ∙ after-ok (place c.loop-rest.stage (entries c.loop-rest.book)) c.loop-rest.line c.in-Some.next.now c.in-ok-row.row (entries c.take.new.book) c.take.result
+          ∙ after_ok (place c.loop-rest.stage (entries c.loop-rest.book)) c.loop-rest.line c.in-Some.next.now c.in-ok-row.row (entries c.take.new.book) c.take.result
           c.in-ok-stage.stage c.take.ensures.value c.in-ok-stage.ensures) ∙ c.loop-rest.invariant.0,
       omega arith,
       omega (arith, c.loop-rest.invariant.2),

@@ -47,8 +47,8 @@ loop-deed-preserved g c =
     let inside = c.loop-deed-test.true in
     let steps : entries new ≡ after_deed h d = c.in-ok-work.ensures.hour in
     let left : drop i deeds ≡ d ∷ rest = at_drop_more (λ (xs : List Deed). xs) deeds i none inside in
-    let now-is : entries new ≡ hour_of (take (i + 1) deeds) = steps ∙ ap (λ (x : Hour). after_deed x d) c.loop-deed.invariant.0 ∙ sym (hour_more deeds i none inside) in (
-      now-is,
+    let now_is : entries new ≡ hour_of (take (i + 1) deeds) = steps ∙ ap (λ (x : Hour). after_deed x d) c.loop-deed.invariant.0 ∙ sym (hour_more deeds i none inside) in (
+      now_is,
       λ others all.
           subst (λ (xs : List Answer). AnswersAll m posted fresh deeds xs) (sym (ap (λ (xs : List Answer). xs ++ others) c.in-ok-push.ensures.items ∙ append_assoc so_far (a ∷ []) others))
           (c.loop-deed.invariant.1 (a ∷ others)
@@ -57,7 +57,7 @@ loop-deed-preserved g c =
       λ k low.
           ⊎_elim
           (λ (less : k < i + 1). c.loop-deed.invariant.2 k (omega arith))
-          (λ (past : i + 1 ≤ k). let same : i + 1 ≡ k = omega arith in subst (λ (n : ℕ). Back (hour_of (take n deeds))) same (back_of new (hour_of (take (i + 1) deeds)) now-is))
+          (λ (past : i + 1 ≤ k). let same : i + 1 ≡ k = omega arith in subst (λ (n : ℕ). Back (hour_of (take n deeds))) same (back_of new (hour_of (take (i + 1) deeds)) now_is))
           (cases_lt k (i + 1)),
     )
 

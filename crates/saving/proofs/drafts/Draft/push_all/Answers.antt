@@ -4,18 +4,18 @@ use Rattle.saved_rows.specs.declared.row.Row.TheVariants as row
 use Rattle.saved_rows.specs.Rows.{bus_rows, lambda_rows, constraint_rows, run_row, rows}
 use Rattle.saving.specs.Growing.{Grows}
 use Rattle.saving.proofs.Growing.{grow_then, grow_same}
-use Rattle.saving.proofs.Counting.{one_bus, one_lambda, one_constraint, one_run, counted-all}
+use Rattle.saving.proofs.Counting.{one_bus, one_lambda, one_constraint, one_run, counted_all}
 use Rattle.saving.proofs.drafts.Draft.push_all.Goals as goal
 
 pub push-lambda-requires : goal.push-lambda-requires
-push-lambda-requires c = omega (arith, counted-all bus_rows 1 one_bus c.args.book.now.buses c.push-buses.ensures, c.args.book.now.size)
+push-lambda-requires c = omega (arith, counted_all bus_rows 1 one_bus c.args.book.now.buses c.push-buses.ensures, c.args.book.now.size)
 
 pub push-constraints-requires : goal.push-constraints-requires
 push-constraints-requires c =
     omega (
       arith,
       c.args.book.now.size,
-      counted-all bus_rows 1 one_bus c.args.book.now.buses c.push-buses.ensures,
+      counted_all bus_rows 1 one_bus c.args.book.now.buses c.push-buses.ensures,
       c.push-lambda.ensures.count,
       one_lambda c.lambda.result,
     )
@@ -26,10 +26,10 @@ push-runs-requires c =
       arith,
       c.args.book.now.size,
       c.args.book.now.columns.0,
-      counted-all bus_rows 1 one_bus c.args.book.now.buses c.push-buses.ensures,
+      counted_all bus_rows 1 one_bus c.args.book.now.buses c.push-buses.ensures,
       c.push-lambda.ensures.count,
       one_lambda c.lambda.result,
-      counted-all constraint_rows 257 one_constraint c.args.book.now.constraints c.push-constraints.ensures,
+      counted_all constraint_rows 257 one_constraint c.args.book.now.constraints c.push-constraints.ensures,
     )
 
 pub push-end-requires : goal.push-end-requires
@@ -39,11 +39,11 @@ push-end-requires c =
       c.args.book.now.size,
       c.args.book.now.columns.0,
       c.args.book.now.columns.1,
-      counted-all bus_rows 1 one_bus c.args.book.now.buses c.push-buses.ensures,
+      counted_all bus_rows 1 one_bus c.args.book.now.buses c.push-buses.ensures,
       c.push-lambda.ensures.count,
       one_lambda c.lambda.result,
-      counted-all constraint_rows 257 one_constraint c.args.book.now.constraints c.push-constraints.ensures,
-      counted-all run_row 1 one_run c.args.book.now.runs c.push-runs.ensures,
+      counted_all constraint_rows 257 one_constraint c.args.book.now.constraints c.push-constraints.ensures,
+      counted_all run_row 1 one_run c.args.book.now.runs c.push-runs.ensures,
     )
 
 pub returns : goal.returns

@@ -2,14 +2,14 @@ use Rattle.std.proofs.Common.{arith}
 use Rattle.hour.specs.Hour.{no_bus}
 use Rattle.saved_rows.specs.Rows.{bus_rows}
 use Rattle.saving.proofs.Growing.{grow_none, grow_entry, grow_all}
-use Rattle.saving.proofs.Counting.{one_bus, counted-front}
+use Rattle.saving.proofs.Counting.{one_bus, counted_front}
 use Rattle.saving.proofs.drafts.Draft.push_buses.Goals as goal
 
 pub loop-k-init : goal.loop-k-init
 loop-k-init c = grow_none c.args.self.now
 
 pub push-bus-requires : goal.push-bus-requires
-push-bus-requires c = omega (arith, counted-front bus_rows 1 one_bus c.args.book.now.buses c.loop-k.k c.loop-k.invariant)
+push-bus-requires c = omega (arith, counted_front bus_rows 1 one_bus c.args.book.now.buses c.loop-k.k c.loop-k.invariant)
 
 pub loop-k-preserved : goal.loop-k-preserved
 loop-k-preserved c =

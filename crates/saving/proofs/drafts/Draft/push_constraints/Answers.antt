@@ -1,14 +1,14 @@
 use Rattle.std.proofs.Common.{None, arith}
 use Rattle.saved_rows.specs.Rows.{constraint_rows}
 use Rattle.saving.proofs.Growing.{grow_none, grow_entry, grow_all}
-use Rattle.saving.proofs.Counting.{one_constraint, counted-front}
+use Rattle.saving.proofs.Counting.{one_constraint, counted_front}
 use Rattle.saving.proofs.drafts.Draft.push_constraints.Goals as goal
 
 pub loop-k-init : goal.loop-k-init
 loop-k-init c = grow_none c.args.self.now
 
 pub push-constraint-requires : goal.push-constraint-requires
-push-constraint-requires c = omega (arith, counted-front constraint_rows 257 one_constraint c.args.book.now.constraints c.loop-k.k c.loop-k.invariant)
+push-constraint-requires c = omega (arith, counted_front constraint_rows 257 one_constraint c.args.book.now.constraints c.loop-k.k c.loop-k.invariant)
 
 pub loop-k-preserved : goal.loop-k-preserved
 loop-k-preserved c =

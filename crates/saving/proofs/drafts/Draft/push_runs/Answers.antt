@@ -1,14 +1,14 @@
 use Rattle.std.proofs.Common.{None, arith}
 use Rattle.saved_rows.specs.Rows.{run_row}
 use Rattle.saving.proofs.Growing.{grow_none, grow_entry, grow_all}
-use Rattle.saving.proofs.Counting.{one_run, counted-front}
+use Rattle.saving.proofs.Counting.{one_run, counted_front}
 use Rattle.saving.proofs.drafts.Draft.push_runs.Goals as goal
 
 pub loop-k-init : goal.loop-k-init
 loop-k-init c = grow_none c.args.self.now
 
 pub push-run-requires : goal.push-run-requires
-push-run-requires c = omega (arith, counted-front run_row 1 one_run c.args.book.now.runs c.loop-k.k c.loop-k.invariant)
+push-run-requires c = omega (arith, counted_front run_row 1 one_run c.args.book.now.runs c.loop-k.k c.loop-k.invariant)
 
 pub loop-k-preserved : goal.loop-k-preserved
 loop-k-preserved c =

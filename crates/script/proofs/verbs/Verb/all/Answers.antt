@@ -1,7 +1,7 @@
 use Rattle.std.proofs.Common.{◌≡◌, ℕ, get_or, refl}
 use Rattle.script.specs.Verbs.{all_verbs}
 use Rattle.script.specs.declared.verbs.Verb.{Verb}
-use Rattle.script.specs.declared.verbs.Verb.TheVariants.{Place, Status, Load, Lambda, Post, Strike, Outage, Run, Drop, Factor, Weights, Price, RealTime, Show, Help}
+use Rattle.script.specs.declared.verbs.Verb.TheVariants.{Place, Status, Load, Lambda, Post, Strike, Outage, Run, Drop, Weights, Show, Help}
 use Rattle.script.proofs.verbs.Verb.all.Goals as goal
 
 listed : (v : Verb) → (i : ℕ) × (get_or all_verbs i Help ≡ v)
@@ -14,12 +14,9 @@ listed Strike = (5, refl)
 listed Outage = (6, refl)
 listed Run = (7, refl)
 listed Drop = (8, refl)
-listed Factor = (9, refl)
-listed Weights = (10, refl)
-listed Price = (11, refl)
-listed RealTime = (12, refl)
-listed Show = (13, refl)
-listed Help = (14, refl)
+listed Weights = (9, refl)
+listed Show = (10, refl)
+listed Help = (11, refl)
 
 pub returns : goal.returns
 returns c = record { value = refl; every = listed }
