@@ -132,7 +132,7 @@ def turned(code, names, fields):
         before = code[:m.start()]
         if before.endswith(".") and "-" in word:
             head = re.search(r"([A-Za-z0-9_'.\-]*)$", before[:-1]).group(1)
-            if not head.startswith("Rattle.") and word not in fields:
+            if not head[:1].isupper() and word not in fields:
                 return word
             if re.match(r"(c|l|w)$", head):
                 print("look: " + head + "." + word)

@@ -36,11 +36,11 @@ half_up_sub n t d l =
     let k : 0 < 2 * d = omega arith in
     let q = int_div_euclid ((pos 2 *ℤ n) +ℤ pos d) (pos (2 * d)) in
     let f = floor ((pos 2 *ℤ n) +ℤ pos d) (2 * d) k in
-    let e : (q -ℤ t) *ℤ pos (2 * d) ≡ (q *ℤ pos (2 * d)) -ℤ (t *ℤ pos (2 * d)) = I.sub-mul q t (pos (2 * d)) in
+    let e : (q -ℤ t) *ℤ pos (2 * d) ≡ (q *ℤ pos (2 * d)) -ℤ (t *ℤ pos (2 * d)) = I.sub_mul q t (pos (2 * d)) in
     let u : t *ℤ pos (2 * d) ≡ pos 2 *ℤ (pos d *ℤ t) = *ℤ_comm t (pos (2 * d)) ∙ I.mul_assoc (pos 2) (pos d) t in
     floor_only ((pos 2 *ℤ (n -ℤ (pos d *ℤ t))) +ℤ pos d) (2 * d) (int_div_euclid ((pos 2 *ℤ (n -ℤ (pos d *ℤ t))) +ℤ pos d) (pos (2 * d))) (q -ℤ t)
     (floor ((pos 2 *ℤ (n -ℤ (pos d *ℤ t))) +ℤ pos d) (2 * d) k)
-    (record { low = omega (arith, ints, f.low, e, u, I.mul-sub (pos 2) n (pos d *ℤ t)); high = omega (arith, ints, f.high, e, u, I.mul-sub (pos 2) n (pos d *ℤ t)) })
+    (record { low = omega (arith, ints, f.low, e, u, I.mul_sub (pos 2) n (pos d *ℤ t)); high = omega (arith, ints, f.high, e, u, I.mul_sub (pos 2) n (pos d *ℤ t)) })
 
 pub halves_rise : HalvesRise
 unfolding half_up
@@ -53,7 +53,7 @@ rest_below n d q s e low less = record { low = omega (arith, ints); high = omega
 -- with half of it or more, the next
 pub rest_above : (n : ℤ) (d : ℕ) (q s : ℤ) → n ≡ (q *ℤ pos d) +ℤ s → s <ℤ pos d → pos d ≤ℤ (pos 2 *ℤ s) → Nearest n d (q +ℤ pos 1)
 rest_above n d q s e high more =
-    let f : (q +ℤ pos 1) *ℤ pos d ≡ (q *ℤ pos d) +ℤ (pos 1 *ℤ pos d) = I.add-mul q (pos 1) (pos d) in
+    let f : (q +ℤ pos 1) *ℤ pos d ≡ (q *ℤ pos d) +ℤ (pos 1 *ℤ pos d) = I.add_mul q (pos 1) (pos d) in
     record { low = omega (arith, ints); high = omega (arith, ints) }
 
 -- a quotient by 2 or more has room for the next

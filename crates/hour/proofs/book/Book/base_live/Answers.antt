@@ -9,7 +9,7 @@ loop-b-init c = (refl, marked_none (base_live (entries c.args.self.now) c.args.m
 
 pub loop-b-preserved : goal.loop-b-preserved
 loop-b-preserved c =
-    marked_turn (base_live (entries c.args.self.now) c.args.market) c.loop-b.set c.marked-next.result c.loop-b.b _ c.loop-b.invariant c.loop-b-test.true c.is-live.ensures c.marked-next.ensures.value
+    marked_turn (base_live (entries c.args.self.now) c.args.market) c.loop-b.set c.marked-next.result c.loop-b.b _ c.loop-b.invariant c.loop-b-test.true c.is_live.ensures c.marked-next.ensures.value
 
 pub returns : goal.returns
 returns c = marked_all (base_live (entries c.args.self.now) c.args.market) c.loop-b.set c.loop-b.b (omega arith) c.loop-b.invariant.1

@@ -10,7 +10,7 @@ pub returns : goal.returns
 returns c =
     let live = c.args.live in
     let h = entries c.args.self.now in
-    let k = c.args.hub-bus in
+    let k = c.args.hub_bus in
     let value : c.count.result ≡ live_count h (member live) k =
     c.count.ensures
     ∙ count_same (member c.both.result) (λ i. member live i && belongs h k i) 256

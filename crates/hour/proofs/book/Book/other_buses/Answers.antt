@@ -7,28 +7,28 @@ use Rattle.hour.specs.declared.records.Bus.{Bus}
 use Rattle.hour.proofs.Tables.{sum_by_removed}
 use Rattle.hour.proofs.book.Book.other_buses.Goals as goal
 
-counted : (c : goal.Then-own-hub-bus) → hub_bus_size c.args.hub-bus c.args.self.now.buses ≡ hub_bus_size c.args.hub-bus (remove c.args.self.now.buses c.args.bus) + 1
+counted : (c : goal.Then-own-hub_bus) → hub_bus_size c.args.hub_bus c.args.self.now.buses ≡ hub_bus_size c.args.hub_bus (remove c.args.self.now.buses c.args.bus) + 1
 counted c =
     let bs = c.args.self.now.buses in
     let size = c.args.self.now.size in
     let low : c.args.bus < 256 = search rules in
     let lt : c.args.bus < length bs = omega arith in
-    let f : Bus → ℕ = λ x. cond (in_hub_bus c.args.hub-bus x) 1 0 in
-    let one : f (get_or bs c.args.bus no_bus) ≡ 1 = cond-true _ 1 0 (eq-eqb _ _ c.if-own-hub-bus.true) in
+    let f : Bus → ℕ = λ x. cond (in_hub_bus c.args.hub_bus x) 1 0 in
+    let one : f (get_or bs c.args.bus no_bus) ≡ 1 = cond-true _ 1 0 (eq-eqb _ _ c.if-own-hub_bus.true) in
     omega (arith, one, sum_by_removed f bs c.args.bus no_bus lt)
 
-pub overflow-sub-result : goal.overflow-sub-result
-overflow-sub-result c = omega (arith, counted c)
+pub overflow_sub-result : goal.overflow_sub-result
+overflow_sub-result c = omega (arith, counted c)
 
-pub returns-then-own-hub-bus : goal.returns-then-own-hub-bus
-returns-then-own-hub-bus c = omega (arith, counted c)
+pub returns-then-own-hub_bus : goal.returns-then-own-hub_bus
+returns-then-own-hub_bus c = omega (arith, counted c)
 
-pub returns-else-own-hub-bus : goal.returns-else-own-hub-bus
-returns-else-own-hub-bus c =
+pub returns-else-own-hub_bus : goal.returns-else-own-hub_bus
+returns-else-own-hub_bus c =
     let bs = c.args.self.now.buses in
     let size = c.args.self.now.size in
     let low : c.args.bus < 256 = search rules in
     let lt : c.args.bus < length bs = omega arith in
-    let f : Bus → ℕ = λ x. cond (in_hub_bus c.args.hub-bus x) 1 0 in
-    let none : f (get_or bs c.args.bus no_bus) ≡ 0 = cond-false _ 1 0 (ne_eqb _ _ c.if-own-hub-bus.false) in
+    let f : Bus → ℕ = λ x. cond (in_hub_bus c.args.hub_bus x) 1 0 in
+    let none : f (get_or bs c.args.bus no_bus) ≡ 0 = cond-false _ 1 0 (ne_eqb _ _ c.if-own-hub_bus.false) in
     omega (arith, none, sum_by_removed f bs c.args.bus no_bus lt)

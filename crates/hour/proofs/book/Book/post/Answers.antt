@@ -7,17 +7,17 @@ use Rattle.hour.specs.Sound.{when_some, constraint_sound}
 use Rattle.hour.proofs.Tables.{all_by_get_d, out_words}
 use Rattle.hour.proofs.book.Book.post.Goals as goal
 
-pub replace-constraint-requires : goal.replace-constraint-requires
-replace-constraint-requires c =
+pub replace_constraint-requires : goal.replace_constraint-requires
+replace_constraint-requires c =
     let book = c.args.self.now in
     let size = book.columns.0 in
-    let i = c.in-ok-i.field-0 in
-    let pi = c.in-ok-i.ensures in
+    let i = c.in_ok-i.field-0 in
+    let pi = c.in_ok-i.ensures in
     let lt : i < length book.constraints = omega arith in
-    let words : four_words c.out-of-out.result ≡ true =
-    subst (λ (ws : List ℕ). four_words ws ≡ true) (sym c.out-of-out.ensures)
+    let words : four_words c.out_of-out.result ≡ true =
+    subst (λ (ws : List ℕ). four_words ws ≡ true) (sym c.out_of-out.ensures)
     (out_words (get_or book.constraints i None) (all_by_get_d (when_some constraint_sound) book.constraints i None lt book.posted))
     in
-    let fits = c.ranges.shadow-price in
-    let price : within c.args.shadow-price 1000000 ≡ true = sym (simp to_z-of_z at c.if-not-is-within.ensures) in
+    let fits = c.ranges.shadow_price in
+    let price : within c.args.shadow_price 1000000 ≡ true = sym (simp to_z-of_z at c.if-not-is_within.ensures) in
     record { place = omega arith; sound = simp to_z-of_z (and_from _ _ price words) }

@@ -5,12 +5,19 @@ use Rattle.hour.specs.Hour.{no_bus}
 use Rattle.hour.proofs.Tables.{all_by_set}
 use Rattle.hour.proofs.book.Book.replace_bus.Goals as goal
 
-pub invariant-of-self : goal.invariant-of-self
-invariant-of-self c =
-    let b = c.args.self.now in (
-      length-set b.buses c.args.bus c.args.new ∙ b.size,
-      (b.columns, (c.requires.few, (all_by_set bus_sound b.buses c.args.bus c.args.new c.requires.sound b.sound, (b.price, (b.posted, (b.entered, (b.seconds, tt))))))),
-    )
+pub invariant_of-self : goal.invariant_of-self
+invariant_of-self c =
+    let b = c.args.self.now in
+    record {
+      size = length-set b.buses c.args.bus c.args.new ∙ b.size;
+      columns = b.columns;
+      few = c.requires.few;
+      sound = all_by_set bus_sound b.buses c.args.bus c.args.new c.requires.sound b.sound;
+      price = b.price;
+      posted = b.posted;
+      entered = b.entered;
+      seconds = b.seconds;
+    }
 
 pub returns : goal.returns
 returns c =

@@ -7,16 +7,16 @@ use Rattle.hour.specs.declared.records.Constraint.{Constraint}
 use Rattle.hour.proofs.Tables.{all_by_get_d}
 use Rattle.hour.proofs.book.Book.set_outage.Goals as goal
 
-pub replace-constraint-requires : goal.replace-constraint-requires
-replace-constraint-requires c =
+pub replace_constraint-requires : goal.replace_constraint-requires
+replace_constraint-requires c =
     let book = c.args.self.now in
     let size = book.columns.0 in
-    let i = c.in-ok-i.field-0 in
-    let pi = c.in-ok-i.ensures in
+    let i = c.in_ok-i.field-0 in
+    let pi = c.in_ok-i.ensures in
     let lt : i < length book.constraints = omega arith in
-    let old = c.in-ok-old.old in
+    let old = c.in_ok-old.old in
     let was : when_some constraint_sound (Some old) ≡ true =
-    subst (λ (x : Option Constraint). when_some constraint_sound x ≡ true) c.in-ok-old.ensures.ok-part
+    subst (λ (x : Option Constraint). when_some constraint_sound x ≡ true) c.in_ok-old.ensures.ok_part
     (all_by_get_d (when_some constraint_sound) book.constraints i None lt book.posted)
     in
     let f : SFits w64 old.shadow_price = search rules in

@@ -9,8 +9,8 @@ use Rattle.hour.proofs.Replays.{did_left, did_said}
 use Rattle.hour.proofs.Laws.{laws}
 use Rattle.hour.proofs.book.replays.replay.Goals as goal
 
-pub returns-in-err-push : goal.returns-in-err-push
-returns-in-err-push c = record { book = search rules; answers = search rules; laws = laws }
+pub returns-in_err-push : goal.returns-in_err-push
+returns-in_err-push c = record { book = search rules; answers = search rules; laws = laws }
 
 pub loop-call-preserved : goal.loop-call-preserved
 loop-call-preserved c =
@@ -26,7 +26,7 @@ loop-call-preserved c =
     let steps : behind ≡ after before call = did_left (step before call) before behind c.apply.result c.apply.ensures in
     let says : c.apply.result ≡ said (step before call) = did_said (step before call) before behind c.apply.result c.apply.ensures in (
       ap (λ (h : Hour). worked h rest) steps ∙ sym (at_drop_more (worked before) calls i none inside) ∙ c.loop-call.invariant.0,
-      ap (λ (xs : List (Result (Unit {0}) Refusal)). xs ++ answers behind rest) c.in-ok-push.ensures.items
+      ap (λ (xs : List (Result (Unit {0}) Refusal)). xs ++ answers behind rest) c.in_ok-push.ensures.items
           ∙ append_assoc so_far (c.apply.result ∷ []) (answers behind rest)
           ∙ ap₂ (λ (r : Result (Unit {0}) Refusal) (h : Hour). so_far ++ (r ∷ answers h rest)) says steps
           ∙ sym (at_drop_more (λ xs. so_far ++ answers before xs) calls i none inside)
