@@ -1,5 +1,5 @@
 -- Bounds of sums and products of whole numbers.
-use Rattle.std.proofs.Common.{ℕ, zero, suc, ◌+◌, ◌*◌, ◌<◌, ◌≤◌, ℤ, pos, negsuc, ◌+ℤ◌, ◌-ℤ◌, ◌*ℤ◌, add_mul, mul-le-mul_left, arith}
+use Rattle.std.proofs.Common.{ℕ, zero, suc, ◌+◌, ◌*◌, ◌<◌, ◌≤◌, ℤ, pos, negsuc, ◌+ℤ◌, ◌-ℤ◌, ◌*ℤ◌, add-mul, mul-le-mul_left, arith}
 use Rattle.std.proofs.lemmas.Int.{ints}
 use Rattle.std.proofs.lemmas.Nat.{mul-le}
 use Rattle.numbers.specs.Rounding.{half_up}
@@ -34,7 +34,7 @@ pub within_sum : (w : ℕ → ℕ) (p : ℕ → ℤ) (m n : ℕ) → ((b : ℕ) 
 unfolding sum_below sum_z
 within_sum w p m zero h = record { low = omega (arith, ints); high = omega (arith, ints) }
 within_sum w p m (suc n) h =
-    within_more (sum_below w n * m + w n * m) ((sum_below w n + w n) * m) _ (omega (arith, add_mul (sum_below w n) (w n) m))
+    within_more (sum_below w n * m + w n * m) ((sum_below w n + w n) * m) _ (omega (arith, add-mul (sum_below w n) (w n) m))
     (within_add (sum_below w n * m) (w n * m) _ _ (within_sum w p m n h) (within_mul (w n) m (pos (w n)) (p n) (within_pos (w n)) (h n)))
 
 -- a factor of at least 1 does not make a number smaller

@@ -110,7 +110,7 @@ impl Layer {
 pub fn at<T, E>(field: u64, r: Result<T, E>) -> Result<T, Spot>
 where
     Why: From<E>,
-    ensures { MatchResult result (λ x. r ≡ Ok x) (λ s. (s.field ≡ field) × IsErrAnd r (λ e. from_gives e s.why)) }
+    ensures { MatchResult result (λ x. r ≡ Ok x) (λ s. (s.field ≡ field) × IsErrAnd r (λ e. bound-1.from_gives e s.why)) }
 {
     match r {
         Ok(x) => Ok(x),

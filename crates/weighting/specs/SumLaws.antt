@@ -1,6 +1,6 @@
 -- Laws of sums over the numbers below n.
 use Rattle.std.specs.Prelude.{◌≡◌, ℕ, zero, suc, ◌+◌, ◌*◌, ◌<◌, ◌≤◌, Bool, true, false, cond, ◌≢◌, refl}
-use Rattle.std.proofs.Common.{sym, ap, ap₂, ◌∙◌, ⊎_elim, arith, add_mul, zero-mul, one-mul, add-one}
+use Rattle.std.proofs.Common.{sym, ap, ap₂, ◌∙◌, ⊎_elim, arith, add-mul, zero-mul, one-mul, add-one}
 use Rattle.std.proofs.lemmas.Bool.{cases_eq, cases_lt}
 use Rattle.bus_set.specs.Sets.{count_below}
 use Rattle.weighting.specs.Sums.{sum_below}
@@ -37,7 +37,7 @@ sum_zeros f (suc n) h = omega (arith, sum_zeros f n (λ i l. h i (omega arith)),
 pub sum_most : (f : ℕ → ℕ) (m n : ℕ) → ((i : ℕ) → i < n → f i ≤ m) → sum_below f n ≤ n * m
 unfolding sum_below
 sum_most f m zero h = omega (arith, zero-mul m)
-sum_most f m (suc n) h = omega (arith, sum_most f m n (λ i l. h i (omega arith)), h n (omega arith), add_mul n 1 m, ap (λ (k : ℕ). k * m) (add-one n), one-mul m)
+sum_most f m (suc n) h = omega (arith, sum_most f m n (λ i l. h i (omega arith)), h n (omega arith), add-mul n 1 m, ap (λ (k : ℕ). k * m) (add-one n), one-mul m)
 
 -- one number only
 pub sum_pick : (f : ℕ → ℕ) (t n : ℕ) → t < n → ((k : ℕ) → k < n → (k ≢ t) → f k ≡ 0) → sum_below f n ≡ f t
@@ -68,4 +68,4 @@ pub sum_times : (p : ℕ → Bool) (x n : ℕ) → sum_below (λ i. cond (p i) x
 unfolding sum_below count_below
 sum_times p x zero = sym (zero-mul x)
 sum_times p x (suc n) =
-    ap₂ (λ (a b : ℕ). a + b) (sum_times p x n) (cond_times (p n) x) ∙ sym (add_mul (count_below p n) (cond (p n) 1 0) x)
+    ap₂ (λ (a b : ℕ). a + b) (sum_times p x n) (cond_times (p n) x) ∙ sym (add-mul (count_below p n) (cond (p n) 1 0) x)

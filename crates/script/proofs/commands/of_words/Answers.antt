@@ -1,5 +1,5 @@
 use Rattle.script.proofs.Lines.{unknown}
 use Rattle.script.proofs.commands.of_words.Goals as goal
 
-pub returns-in-default-named : goal.returns-in-default-named
-returns-in-default-named c = record { value = unknown _ _ _ c.in-Some.ensures.cases c.if-starts-with.ensures.cases c.in-default-named.ensures.value }
+pub returns-in_default-named : goal.returns-in_default-named
+returns-in_default-named c = record { value = unknown _ _ _ c.in-Some.ensures.cases c.if-starts_with.ensures.cases c.in_default-named.ensures.value }

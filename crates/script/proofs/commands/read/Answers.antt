@@ -6,5 +6,5 @@ use Rattle.script.proofs.commands.read.Goals as goal
 
 pub returns : goal.returns
 returns c =
-    let p : c.of-words.result ≡ command (words c.args.line.now) = c.of-words.ensures.value ∙ ap command c.of.ensures.value in
+    let p : c.of_words.result ≡ command (words c.args.line.now) = c.of_words.ensures.value ∙ ap command c.of.ensures.value in
     record { value = p; back = λ call fits e. p ∙ ap (λ (l : List ℕ). command (words l)) e ∙ reads_back call fits }

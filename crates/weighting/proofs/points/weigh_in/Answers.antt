@@ -7,5 +7,5 @@ pub returns : goal.returns
 returns g c =
     let m = g.W.Weighting.meaning c.args.weighting.now in
     let book = c.args.book.now in
-    weighed_in m book (case_of (entries book) c.args.constraint) c.in-ok-live.live
-    (record { weights = c.weights-weights.result; total = c.total-total.result }) c.in-ok-live.ensures c.weights-weights.ensures c.total-total.ensures
+    weighed_in m book (case_of (entries book) c.args.constraint) c.in_ok-live.live
+    (record { weights = c.weights-weights.result; total = c.total-total.result }) c.in_ok-live.ensures c.weights-weights.ensures c.total-total.ensures

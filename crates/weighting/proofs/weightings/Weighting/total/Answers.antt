@@ -7,8 +7,8 @@ use Rattle.weighting.proofs.weightings.Weighting.total.Goals as goal
 pub loop-bus-init : goal.loop-bus-init
 loop-bus-init g c = sym (sum_none ((g.Self.Weighting.meaning c.args.self.now).weight (view c.args.case.now)))
 
-pub overflow-add-sum : goal.overflow-add-sum
-overflow-add-sum g c =
+pub overflow_add-sum : goal.overflow_add-sum
+overflow_add-sum g c =
     let m = g.Self.Weighting.meaning c.args.self.now in
     let v = view c.args.case.now in
     let b = c.loop-bus.bus in
