@@ -34,7 +34,6 @@ sum_less w p q zero = sym (ap (λ (x : ℤ). pos 0 -ℤ x) (zero-*ℤ q))
 sum_less w p q (suc n) =
     omega (arith, ints, sum_less w p q n, mul_sub (pos (w n)) (p n) q, add_mul (pos (sum_below w n)) (pos (w n)) q)
 
-
 less_less : (l z d : ℤ) → (l -ℤ d) -ℤ (z -ℤ d) ≡ l -ℤ z
 less_less l z d = omega (arith, ints)
 

@@ -16,10 +16,10 @@ returns g c =
     let fits' : SFits w128 c.valued.result = search rules in
     let out = to_z-of_z w128 c.rounded.result fits in
     let wide = to_z-of_z w128 c.valued.result fits' in
-    let price : to_z w64 (of_z w64 c.args.shadow-price) ≡ c.args.shadow-price = omega (arith, ints, c.requires) in
-    let sum = to_z-of_z w64 c.weighted-factors-sum.result (fits_within c.weighted-factors-sum.ensures.bound) in
+    let price : to_z w64 (of_z w64 c.args.shadow_price) ≡ c.args.shadow_price = omega (arith, ints, c.requires) in
+    let sum = to_z-of_z w64 c.weighted_factors-sum.result (fits_within c.weighted_factors-sum.ensures.bound) in
     record {
-      value = out ∙ congestion_is m p v c.args.k c.args.shadow-price c.total-total.ensures c.if-total-eq0.false c.weighted-factors-sum.ensures.value
+      value = out ∙ congestion_is m p v c.args.k c.args.shadow_price c.total-total.ensures c.if-total-eq0.false c.weighted_factors-sum.ensures.value
           (wide ∙ times_is c.valued.ensures.value sum price) c.rounded.ensures.value;
       bound = subst (Within 6000000000000000000) (sym out)
           (round_within m p v c.total-total.ensures c.if-total-eq0.false (subst (Within 5120000000000000000) (sym wide) c.valued.ensures.bound) c.rounded.ensures.value);

@@ -6,11 +6,11 @@ use Rattle.day_ahead.proofs.Bounds.{within_zero}
 use Rattle.day_ahead.proofs.Congestion.{none_is, some_is}
 use Rattle.day_ahead.proofs.contributions.contributed.Goals as goal
 
-pub returns-in-default : goal.returns-in-default
-returns-in-default g c =
+pub returns-in_default : goal.returns-in_default
+returns-in_default g c =
     let m = g.W.Weighting.meaning c.args.weighting.now in
     let p = g.P.Posting.grid c.args.posting.now in
-    record { value = none_is m p c.args.book.now c.args.k (sym c.shadow-price.ensures.value ∙ c.in-default.is); bound = within_zero 6000000000000000000 }
+    record { value = none_is m p c.args.book.now c.args.k (sym c.shadow_price.ensures.value ∙ c.in_default.is); bound = within_zero 6000000000000000000 }
 
 pub returns : goal.returns
 returns g c =
@@ -20,7 +20,7 @@ returns g c =
     let out = to_z-of_z w128 c.congested.result fits in
     let same : to_z w64 (of_z w64 c.in-Some.price) ≡ c.in-Some.price = omega (arith, ints, c.in-Some.ensures.bound) in
     record {
-      value = out ∙ some_is m p c.args.book.now c.args.k c.in-Some.price c.in-Some-live-under.live (sym c.shadow-price.ensures.value ∙ c.in-Some.is)
-          c.in-Some-live-under.ensures.live same c.congested.ensures.value;
+      value = out ∙ some_is m p c.args.book.now c.args.k c.in-Some.price c.in-Some-live_under.live (sym c.shadow_price.ensures.value ∙ c.in-Some.is)
+          c.in-Some-live_under.ensures.live same c.congested.ensures.value;
       bound = subst (Within 6000000000000000000) (sym out) c.congested.ensures.bound;
     }

@@ -6,7 +6,7 @@ use Rattle.posting_text.proofs.checking.check.Goals as goal
 
 pub returns : goal.returns
 returns c = record {
-  value = c.count-lines.ensures;
-  says = check_says c.args.text.now c.count-lines.result c.count-lines.ensures;
-  accepts = λ es right is. c.count-lines.ensures ∙ ap checking is ∙ accepts es right;
+  value = c.count_lines.ensures;
+  says = check_says c.args.text.now c.count_lines.result c.count_lines.ensures;
+  accepts = λ es right is. c.count_lines.ensures ∙ ap checking is ∙ accepts es right;
 }

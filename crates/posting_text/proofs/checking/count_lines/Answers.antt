@@ -8,20 +8,20 @@ pub loop-rest-init : goal.loop-rest-init
 unfolding checking
 loop-rest-init c = (refl, omega arith)
 
-pub returns-in-err-rest : goal.returns-in-err-rest
-returns-in-err-rest c =
-    let p = err_from_is_err_and c.from-residual.result c.from-residual.ensures.1 in
+pub returns-in_err-rest : goal.returns-in_err-rest
+returns-in_err-rest c =
+    let p = err_from_is_err_and c.from_residual.result c.from_residual.ensures.1 in
     p.1 ∙ ap Err p.2
-    ∙ sym (turn_stops c.loop-rest.count c.loop-rest.rest.now c.past-line.result c.past-line.ensures c.loop-rest-test.ensures _ c.in-err-rest.ensures)
+    ∙ sym (turn_stops c.loop-rest.count c.loop-rest.rest.now c.past_line.result c.past_line.ensures c.loop-rest-test.ensures _ c.in_err-rest.ensures)
     ∙ c.loop-rest.invariant.0
 
 pub loop-rest-smaller : goal.loop-rest-smaller
-loop-rest-smaller c = turn_shorter c.loop-rest.count c.loop-rest.rest.now c.past-line.result c.past-line.ensures _ c.in-ok-rest.ensures
+loop-rest-smaller c = turn_shorter c.loop-rest.count c.loop-rest.rest.now c.past_line.result c.past_line.ensures _ c.in_ok-rest.ensures
 
 pub loop-rest-preserved : goal.loop-rest-preserved
 loop-rest-preserved c =
-    let less = turn_shorter c.loop-rest.count c.loop-rest.rest.now c.past-line.result c.past-line.ensures _ c.in-ok-rest.ensures in (
-      sym (turn_on c.loop-rest.count c.loop-rest.rest.now c.past-line.result c.past-line.ensures c.loop-rest-test.ensures _ c.in-ok-rest.ensures) ∙ c.loop-rest.invariant.0,
+    let less = turn_shorter c.loop-rest.count c.loop-rest.rest.now c.past_line.result c.past_line.ensures _ c.in_ok-rest.ensures in (
+      sym (turn_on c.loop-rest.count c.loop-rest.rest.now c.past_line.result c.past_line.ensures c.loop-rest-test.ensures _ c.in_ok-rest.ensures) ∙ c.loop-rest.invariant.0,
       omega (arith, c.loop-rest.invariant.1),
     )
 

@@ -8,7 +8,7 @@ pub returns : goal.returns
 returns g c =
     let p = g.P.Posting.grid c.args.posting.now in
     let book = c.args.book.now in
-    let priced : PricedAt (λ m. day_ahead_price m p book) c.args.point c.point-price.result = c.point-price.ensures in
+    let priced : PricedAt (λ m. day_ahead_price m p book) c.args.point c.point_price.result = c.point_price.ensures in
     record {
       value = priced;
       facts = λ other q facts. point_stands _ _ _ _ (live_facts_decide p q book other) c.args.point _ facts priced;

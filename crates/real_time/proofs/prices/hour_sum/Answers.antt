@@ -10,14 +10,14 @@ use Rattle.real_time.proofs.prices.hour_sum.Goals as goal
 pub loop-column-init : goal.loop-column-init
 loop-column-init g c = (sym (sum_z_none _), record { low = omega (arith, ints); high = omega (arith, ints) })
 
-pub overflow-add-sum : goal.overflow-add-sum
-overflow-add-sum g c = omega (arith, ints, c.loop-column.invariant.1, c.run-part-sum.ensures.bound)
+pub overflow_add-sum : goal.overflow_add-sum
+overflow_add-sum g c = omega (arith, ints, c.loop-column.invariant.1, c.run_part-sum.ensures.bound)
 
 pub loop-column-preserved : goal.loop-column-preserved
 loop-column-preserved g c =
     let f : ℕ → ℤ = λ k. run_part (weight_in c.args.weights.now) (g.P.Posting.grid c.args.posting.now) c.args.weights.now.total k (run_at (entries c.args.book.now) k) in (
-      omega (arith, ints, c.loop-column.invariant, c.run-part-sum.ensures.value, c.run-part-sum.ensures.bound, sum_z_more f c.loop-column.column),
-      record { low = omega (arith, ints, c.loop-column.invariant.1, c.run-part-sum.ensures.bound); high = omega (arith, ints, c.loop-column.invariant.1, c.run-part-sum.ensures.bound) },
+      omega (arith, ints, c.loop-column.invariant, c.run_part-sum.ensures.value, c.run_part-sum.ensures.bound, sum_z_more f c.loop-column.column),
+      record { low = omega (arith, ints, c.loop-column.invariant.1, c.run_part-sum.ensures.bound); high = omega (arith, ints, c.loop-column.invariant.1, c.run_part-sum.ensures.bound) },
     )
 
 pub returns : goal.returns

@@ -15,22 +15,22 @@ adders run h =
     let both = and_parts a b (and_parts (leb 1 run.seconds) (a && b) h).1 in
     (within_by run.reserve_adder 1000000 both.0, within_by run.reliability_adder 1000000 both.1)
 
-pub overflow-mul-result : goal.overflow-mul-result
-overflow-mul-result c =
+pub overflow_mul-result : goal.overflow_mul-result
+overflow_mul-result c =
     let run = c.args.run in
     let both = adders run c.requires.run in
     let seconds : run.seconds < 65536 = search rules in
     added_on_fits c.args.prices c.args.total run.reserve_adder run.reliability_adder run.seconds c.requires.prices c.requires.total both.0 both.1 seconds
 
-pub overflow-add-result : goal.overflow-add-result
-overflow-add-result c =
+pub overflow_add-result : goal.overflow_add-result
+overflow_add-result c =
     let run = c.args.run in
     let both = adders run c.requires.run in
     let seconds : run.seconds < 65536 = search rules in
     raised_fits c.args.prices c.args.total run.reserve_adder run.reliability_adder run.seconds c.requires.prices c.requires.total both.0 both.1 seconds
 
-pub overflow-mul-result-2 : goal.overflow-mul-result-2
-overflow-mul-result-2 c =
+pub overflow_mul-result-2 : goal.overflow_mul-result-2
+overflow_mul-result-2 c =
     let run = c.args.run in
     let both = adders run c.requires.run in
     let seconds : run.seconds < 65536 = search rules in

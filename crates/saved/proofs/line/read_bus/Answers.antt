@@ -7,14 +7,14 @@ use Rattle.saved.proofs.line.read_bus.Goals as goal
 
 pub returns : goal.returns
 returns c =
-    let bus = c.in-ok-bus.ensures in
-    let hub-bus = c.in-ok-hub-bus.ensures in
-    let zone = c.in-ok-zone.ensures in
-    let day-ahead-status = c.in-ok-day-ahead-status.ensures in
-    let day-ahead-load = c.in-ok-day-ahead-load.ensures in
-    let real-time-status = c.in-ok-real-time-status.ensures in
-    let real-time-load = c.in-ok-real-time-load.ensures in
-    let all = bus.0 ∙ ap (λ l. c.in-ok-bus.bus.now ∷ l) (hub-bus.0 ∙ ap (λ l. c.in-ok-hub-bus.hub-bus.now ∷ l) (zone.0 ∙ ap (λ l. c.in-ok-zone.zone.now ∷ l) (day-ahead-status.0 ∙ ap (λ l. c.in-ok-day-ahead-status.day-ahead-status.now ∷ l) (day-ahead-load.0 ∙ ap (λ l. c.in-ok-day-ahead-load.day-ahead-load.now ∷ l) (real-time-status.0 ∙ ap (λ l. c.in-ok-real-time-status.real-time-status.now ∷ l) (real-time-load.0 ∙ ap (λ l. c.in-ok-real-time-load.real-time-load.now ∷ l) c.in-ok-end.ensures)))))) in (
+    let bus = c.in_ok-bus.ensures in
+    let hub-bus = c.in_ok-hub_bus.ensures in
+    let zone = c.in_ok-zone.ensures in
+    let day-ahead-status = c.in_ok-day_ahead_status.ensures in
+    let day-ahead-load = c.in_ok-day_ahead_load.ensures in
+    let real-time-status = c.in_ok-real_time_status.ensures in
+    let real-time-load = c.in_ok-real_time_load.ensures in
+    let all = bus.0 ∙ ap (λ l. c.in_ok-bus.bus.now ∷ l) (hub-bus.0 ∙ ap (λ l. c.in_ok-hub_bus.hub_bus.now ∷ l) (zone.0 ∙ ap (λ l. c.in_ok-zone.zone.now ∷ l) (day-ahead-status.0 ∙ ap (λ l. c.in_ok-day_ahead_status.day_ahead_status.now ∷ l) (day-ahead-load.0 ∙ ap (λ l. c.in_ok-day_ahead_load.day_ahead_load.now ∷ l) (real-time-status.0 ∙ ap (λ l. c.in_ok-real_time_status.real_time_status.now ∷ l) (real-time-load.0 ∙ ap (λ l. c.in_ok-real_time_load.real_time_load.now ∷ l) c.in_ok-end.ensures)))))) in (
       ap (λ l. (66 ∷ []) ∷ l) (sym all),
       (
         _,
@@ -24,37 +24,37 @@ returns c =
             ∙ take_field status_of 5 _ _ _ _ _ day-ahead-status.0 day-ahead-status.1.1
             ∙ take_field decimal_of 6 _ _ _ _ _ day-ahead-load.0 day-ahead-load.1.1
             ∙ take_field status_of 7 _ _ _ _ _ real-time-status.0 real-time-status.1.1
-            ∙ take_field decimal_of 8 _ _ _ _ _ real-time-load.0 real-time-load.1.1 ∙ ap (end 9 _) c.in-ok-end.ensures,
+            ∙ take_field decimal_of 8 _ _ _ _ _ real-time-load.0 real-time-load.1.1 ∙ ap (end 9 _) c.in_ok-end.ensures,
       ),
     )
 
-pub returns-in-err-real-time-load : goal.returns-in-err-real-time-load
-returns-in-err-real-time-load c =
-    let bus = c.in-ok-bus.ensures in
-    let hub-bus = c.in-ok-hub-bus.ensures in
-    let zone = c.in-ok-zone.ensures in
-    let day-ahead-status = c.in-ok-day-ahead-status.ensures in
-    let day-ahead-load = c.in-ok-day-ahead-load.ensures in
-    let real-time-status = c.in-ok-real-time-status.ensures in
-    let p = err_from_is_err_and c.from-residual-in-err-real-time-load.result c.from-residual-in-err-real-time-load.ensures.1 in
+pub returns-in_err-real_time_load : goal.returns-in_err-real_time_load
+returns-in_err-real_time_load c =
+    let bus = c.in_ok-bus.ensures in
+    let hub-bus = c.in_ok-hub_bus.ensures in
+    let zone = c.in_ok-zone.ensures in
+    let day-ahead-status = c.in_ok-day_ahead_status.ensures in
+    let day-ahead-load = c.in_ok-day_ahead_load.ensures in
+    let real-time-status = c.in_ok-real_time_status.ensures in
+    let p = err_from_is_err_and c.from_residual-in_err-real_time_load.result c.from_residual-in_err-real_time_load.ensures.1 in
     rw (p.1, p.2) (take_field decimal_of 2 _ _ _ _ _ bus.0 bus.1.1
     ∙ take_field decimal_of 3 _ _ _ _ _ hub-bus.0 hub-bus.1.1
     ∙ take_field decimal_of 4 _ _ _ _ _ zone.0 zone.1.1
     ∙ take_field status_of 5 _ _ _ _ _ day-ahead-status.0 day-ahead-status.1.1
     ∙ take_field decimal_of 6 _ _ _ _ _ day-ahead-load.0 day-ahead-load.1.1
     ∙ take_field status_of 7 _ _ _ _ _ real-time-status.0 real-time-status.1.1
-    ∙ stuck_field decimal_of 8 _ _ c.in-err-real-time-load.ensures.1 ∙ ap Err (sym c.in-err-real-time-load.ensures.0))
+    ∙ stuck_field decimal_of 8 _ _ c.in_err-real_time_load.ensures.1 ∙ ap Err (sym c.in_err-real_time_load.ensures.0))
 
-pub returns-in-err-end : goal.returns-in-err-end
-returns-in-err-end c =
-    let bus = c.in-ok-bus.ensures in
-    let hub-bus = c.in-ok-hub-bus.ensures in
-    let zone = c.in-ok-zone.ensures in
-    let day-ahead-status = c.in-ok-day-ahead-status.ensures in
-    let day-ahead-load = c.in-ok-day-ahead-load.ensures in
-    let real-time-status = c.in-ok-real-time-status.ensures in
-    let real-time-load = c.in-ok-real-time-load.ensures in
-    let p = err_from_is_err_and c.from-residual-in-err-end.result c.from-residual-in-err-end.ensures.1 in
+pub returns-in_err-end : goal.returns-in_err-end
+returns-in_err-end c =
+    let bus = c.in_ok-bus.ensures in
+    let hub-bus = c.in_ok-hub_bus.ensures in
+    let zone = c.in_ok-zone.ensures in
+    let day-ahead-status = c.in_ok-day_ahead_status.ensures in
+    let day-ahead-load = c.in_ok-day_ahead_load.ensures in
+    let real-time-status = c.in_ok-real_time_status.ensures in
+    let real-time-load = c.in_ok-real_time_load.ensures in
+    let p = err_from_is_err_and c.from_residual-in_err-end.result c.from_residual-in_err-end.ensures.1 in
     rw (p.1, p.2) (take_field decimal_of 2 _ _ _ _ _ bus.0 bus.1.1
     ∙ take_field decimal_of 3 _ _ _ _ _ hub-bus.0 hub-bus.1.1
     ∙ take_field decimal_of 4 _ _ _ _ _ zone.0 zone.1.1
@@ -62,4 +62,4 @@ returns-in-err-end c =
     ∙ take_field decimal_of 6 _ _ _ _ _ day-ahead-load.0 day-ahead-load.1.1
     ∙ take_field status_of 7 _ _ _ _ _ real-time-status.0 real-time-status.1.1
     ∙ take_field decimal_of 8 _ _ _ _ _ real-time-load.0 real-time-load.1.1
-    ∙ end_further 9 _ _ c.in-err-end.ensures.1 ∙ ap Err (sym c.in-err-end.ensures.0))
+    ∙ end_further 9 _ _ c.in_err-end.ensures.1 ∙ ap Err (sym c.in_err-end.ensures.0))

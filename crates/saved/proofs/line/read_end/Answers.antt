@@ -6,6 +6,6 @@ use Rattle.saved.proofs.line.read_end.Goals as goal
 
 pub returns : goal.returns
 returns c =
-    let count = c.in-ok-count.ensures in
-    let all = count.0 ∙ ap (λ l. c.in-ok-count.count.now ∷ l) c.in-ok-end.ensures in
-    (ap (λ l. (90 ∷ []) ∷ l) (sym all), (_, take_field decimal_of 2 _ _ _ _ _ count.0 count.1.1 ∙ ap (end 3 _) c.in-ok-end.ensures))
+    let count = c.in_ok-count.ensures in
+    let all = count.0 ∙ ap (λ l. c.in_ok-count.count.now ∷ l) c.in_ok-end.ensures in
+    (ap (λ l. (90 ∷ []) ∷ l) (sym all), (_, take_field decimal_of 2 _ _ _ _ _ count.0 count.1.1 ∙ ap (end 3 _) c.in_ok-end.ensures))
