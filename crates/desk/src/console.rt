@@ -6,12 +6,12 @@ use crate::weights::Weighing;
 use hour::book::Book;
 use script::verbs::Verb;
 use std::io;
-use std::io::{BufRead, BufReader};
+use std::io::{BufRead, BufReader, IsTerminal};
 
 // Works standard input to its end, a line at a time, and prints what each line gets.
 pub fn work_input(rt: &HostRuntime) -> io::Result<()> {
     // Someone at a terminal is told what to write.
-    if libc::isatty(0) == 1 {
+    if rt.stdin().is_terminal() {
         print_help(rt)?;
     }
     let heap = rt.alloc();

@@ -55,16 +55,18 @@ module _ (w u : ℕ → ℕ) (same : (b : ℕ) → b < 256 → w b ≡ u b) (p q
 abbrev pub priced : ℕ → ℕ → ℤ → Result ℤ Refusal
 priced seconds total sum = cond (eqb seconds interval) (cond (eqb total 0) (Err NoWeight) (Ok (cents_of sum total))) (Err SecondsShort)
 
+pub seconds_same : (m : Meaning) (p q : Grid) (a b : Book) → SameFacts m p q a b → total_seconds (entries a).runs ≡ total_seconds (entries b).runs
+seconds_same m p q a b same = ap total_seconds (ext_get_or None a.runs b.runs (a.columns.1 ∙ sym b.columns.1) (λ k l. same.runs k (omega (arith, a.columns.1))))
+
 pub same_facts : (m : Meaning) (p q : Grid) (a b : Book) → SameFacts m p q a b → real_time_price m p a ≡ real_time_price m q b
 same_facts m p q a b same =
     let ta = m.total (base_view a) in
     let tb = m.total (base_view b) in
     let total : ta ≡ tb = total_alike m (base_view a) (base_view b) same.buses in
-    let lists : a.runs ≡ b.runs = ext_get_or None a.runs b.runs (a.columns.1 ∙ sym b.columns.1) (λ k l. same.runs k (omega (arith, a.columns.1))) in
     let sums : base_sum m p a ≡ base_sum m q b =
     hour_same (m.weight (base_view a)) (m.weight (base_view b)) (m.alike_weigh_the_same (base_view a) (base_view b) same.buses) p q ta tb
     (run_at (entries a)) (run_at (entries b)) total same.runs same.prices in
-    ap (λ (n : ℕ). priced n ta (base_sum m p a)) (ap total_seconds lists)
+    ap (λ (n : ℕ). priced n ta (base_sum m p a)) (seconds_same m p q a b same)
     ∙ ap (λ (t : ℕ). priced (total_seconds b.runs) t (base_sum m p a)) total
     ∙ ap (priced (total_seconds b.runs) tb) sums
 

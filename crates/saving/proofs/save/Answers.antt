@@ -15,12 +15,12 @@ pub returns : goal.returns
 unfolding saved_text
 returns c =
     let book = c.args.book.now in
-    let composed : written c.push-all.new.self.page ≡ saved_text (entries book) =
-    c.push-all.ensures.text.text
+    let composed : written c.push_all.new.self.page ≡ saved_text (entries book) =
+    c.push_all.ensures.text.text
     ∙ ap (λ (t : List ℕ). take longest (t ++ flat_map line_text (all_rows (entries book)))) c.empty-draft.ensures.text
     ∙ take_all longest (saved_text (entries book)) (saved_fits book) in
     record {
-      saved = subst (λ (t : List ℕ). Copies t c.args.out.now c.copy-to.new.out c.copy-to.result) composed c.copy-to.ensures;
+      saved = subst (λ (t : List ℕ). Copies t c.args.out.now c.copy_to.new.out c.copy_to.result) composed c.copy_to.ensures;
       fits = saved_fits book;
       legible = saved_legible book;
     }

@@ -2,4 +2,4 @@ use Rattle.saving.proofs.Adding.{add_then, add_number}
 use Rattle.saving.proofs.lines.push_end.Goals as goal
 
 pub returns : goal.returns
-returns c = add_then (add_number c.args.count c.ranges.count c.push-byte.ensures c.push-number.ensures) c.push-byte-2.ensures
+returns c = add_then (add_number c.args.count c.ranges.count c.push_byte.ensures c.push_number.ensures) c.push_byte-2.ensures

@@ -7,50 +7,50 @@ use Rattle.saving.proofs.Growing.{grow_then, grow_same}
 use Rattle.saving.proofs.Counting.{one_bus, one_lambda, one_constraint, one_run, counted_all}
 use Rattle.saving.proofs.drafts.Draft.push_all.Goals as goal
 
-pub push-lambda-requires : goal.push-lambda-requires
-push-lambda-requires c = omega (arith, counted_all bus_rows 1 one_bus c.args.book.now.buses c.push-buses.ensures, c.args.book.now.size)
+pub push_lambda-requires : goal.push_lambda-requires
+push_lambda-requires c = omega (arith, counted_all bus_rows 1 one_bus c.args.book.now.buses c.push_buses.ensures, c.args.book.now.size)
 
-pub push-constraints-requires : goal.push-constraints-requires
-push-constraints-requires c =
+pub push_constraints-requires : goal.push_constraints-requires
+push_constraints-requires c =
     omega (
       arith,
       c.args.book.now.size,
-      counted_all bus_rows 1 one_bus c.args.book.now.buses c.push-buses.ensures,
-      c.push-lambda.ensures.count,
+      counted_all bus_rows 1 one_bus c.args.book.now.buses c.push_buses.ensures,
+      c.push_lambda.ensures.count,
       one_lambda c.lambda.result,
     )
 
-pub push-runs-requires : goal.push-runs-requires
-push-runs-requires c =
+pub push_runs-requires : goal.push_runs-requires
+push_runs-requires c =
     omega (
       arith,
       c.args.book.now.size,
       c.args.book.now.columns.0,
-      counted_all bus_rows 1 one_bus c.args.book.now.buses c.push-buses.ensures,
-      c.push-lambda.ensures.count,
+      counted_all bus_rows 1 one_bus c.args.book.now.buses c.push_buses.ensures,
+      c.push_lambda.ensures.count,
       one_lambda c.lambda.result,
-      counted_all constraint_rows 257 one_constraint c.args.book.now.constraints c.push-constraints.ensures,
+      counted_all constraint_rows 257 one_constraint c.args.book.now.constraints c.push_constraints.ensures,
     )
 
-pub push-end-requires : goal.push-end-requires
-push-end-requires c =
+pub push_end-requires : goal.push_end-requires
+push_end-requires c =
     omega (
       arith,
       c.args.book.now.size,
       c.args.book.now.columns.0,
       c.args.book.now.columns.1,
-      counted_all bus_rows 1 one_bus c.args.book.now.buses c.push-buses.ensures,
-      c.push-lambda.ensures.count,
+      counted_all bus_rows 1 one_bus c.args.book.now.buses c.push_buses.ensures,
+      c.push_lambda.ensures.count,
       one_lambda c.lambda.result,
-      counted_all constraint_rows 257 one_constraint c.args.book.now.constraints c.push-constraints.ensures,
-      counted_all run_row 1 one_run c.args.book.now.runs c.push-runs.ensures,
+      counted_all constraint_rows 257 one_constraint c.args.book.now.constraints c.push_constraints.ensures,
+      counted_all run_row 1 one_run c.args.book.now.runs c.push_runs.ensures,
     )
 
 pub returns : goal.returns
 returns c =
     let book = c.args.book.now in
-    let lambda = grow_same c.push-lambda.ensures (ap lambda_rows c.lambda.ensures.value) in
-    let all : Grows (rows (entries book)) c.args.self.now c.push-runs.new.self =
-    grow_then c.push-buses.ensures (grow_then lambda (grow_then c.push-constraints.ensures c.push-runs.ensures)) in
-    let count : c.push-runs.new.self.lines ≡ length (rows (entries book)) = omega (arith, all.count) in
-    grow_then all (grow_same c.push-end.ensures (ap (λ (n : ℕ). row.End (pos n) ∷ []) count))
+    let lambda = grow_same c.push_lambda.ensures (ap lambda_rows c.lambda.ensures.value) in
+    let all : Grows (rows (entries book)) c.args.self.now c.push_runs.new.self =
+    grow_then c.push_buses.ensures (grow_then lambda (grow_then c.push_constraints.ensures c.push_runs.ensures)) in
+    let count : c.push_runs.new.self.lines ≡ length (rows (entries book)) = omega (arith, all.count) in
+    grow_then all (grow_same c.push_end.ensures (ap (λ (n : ℕ). row.End (pos n) ∷ []) count))

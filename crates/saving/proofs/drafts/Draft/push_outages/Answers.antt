@@ -10,10 +10,10 @@ pub loop-bus-init : goal.loop-bus-init
 unfolding outage_rows
 loop-bus-init c = grow_none c.args.self.now
 
-pub push-outage-requires : goal.push-outage-requires
-push-outage-requires c = omega (arith, some_outages c.args.k (member c.args.out) c.loop-bus.bus, c.loop-bus.invariant.count)
+pub push_outage-requires : goal.push_outage-requires
+push_outage-requires c = omega (arith, some_outages c.args.k (member c.args.out) c.loop-bus.bus, c.loop-bus.invariant.count)
 
 pub loop-bus-preserved : goal.loop-bus-preserved
 loop-bus-preserved c =
     grow_outage c.args.k (member c.args.out) c.loop-bus.bus c.loop-bus.invariant
-    (grow_same c.push-outage.ensures (ap (λ (t : Bool). cond t (row.Outage (pos c.args.k) (pos c.loop-bus.bus) ∷ []) []) c.contains.ensures))
+    (grow_same c.push_outage.ensures (ap (λ (t : Bool). cond t (row.Outage (pos c.args.k) (pos c.loop-bus.bus) ∷ []) []) c.contains.ensures))
