@@ -1,4 +1,3 @@
 pub mod Integers
 pub mod Floors
 pub mod Halves
-pub mod Sums

@@ -1,2 +1,1 @@
 pub mod Rounding
-pub mod Sums

@@ -17,7 +17,7 @@ use Rattle.weighting.specs.declared.hubs.Hub.{Hub}
 use Rattle.weighting.specs.declared.hubs.Hub.TheVariants as of
 use Rattle.weighting.specs.declared.zones.Zone.{Zone}
 use Rattle.weighting.specs.declared.ties.Tie.{Tie}
-use Rattle.numbers.specs.Sums.{sum_z}
+use Rattle.day_ahead.specs.Sums.{sum_z}
 use Rattle.pricing.specs.Origins.{own_price}
 use Rattle.pricing.specs.Points.{hub_priced}
 use Rattle.pricing.specs.declared.origins.Origin.{Origin}

@@ -11,11 +11,11 @@ unfolding price_lines
 returns g c =
     let book = c.args.book.now in
     let factors = g.P.Posting.grid c.args.posting.now in
-    let copies : Copies (price_lines book factors) c.args.out.now c.copy-to.new.out c.copy-to.result =
-    subst (λ (t : List ℕ). Copies t c.args.out.now c.copy-to.new.out c.copy-to.result) c.composed.ensures c.copy-to.ensures in
+    let copies : Copies (price_lines book factors) c.args.out.now c.copy_to.new.out c.copy_to.result =
+    subst (λ (t : List ℕ). Copies t c.args.out.now c.copy_to.new.out c.copy_to.result) c.composed.ensures c.copy_to.ensures in
     record {
       text = copies;
       shown =
-          copied_show (Shows (day_ahead book factors) (entries book)) (price_lines book factors) c.args.out.now c.copy-to.new.out c.copy-to.result
+          copied_show (Shows (day_ahead book factors) (entries book)) (price_lines book factors) c.args.out.now c.copy_to.new.out c.copy_to.result
           (lines_show (day_ahead book factors) (entries book)) copies;
     }

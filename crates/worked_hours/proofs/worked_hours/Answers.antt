@@ -11,10 +11,10 @@ use Rattle.worked_hours.proofs.worked_hours.Goals as goal
 -- the book has the entries of the row, and the table its numbers
 pub returns : goal.returns
 returns c =
-    let book = c.worked-book-book.result in
+    let book = c.worked_book-book.result in
     record {
       rows = worked_rows;
-      north = worked_rows.north book (c.worked-book-book.ensures ∙ ap (worked fresh) c.hour-n.ensures) c.point-price.result
-          (subst (λ (numbers : List ℤ). PricedAt (λ m. day_ahead_price m (table_grid numbers) book) (hub 1) c.point-price.result)
-          (c.over-table.ensures.made ∙ c.factors-n-factors.ensures) c.point-price.ensures);
+      north = worked_rows.north book (c.worked_book-book.ensures ∙ ap (worked fresh) c.hour_n.ensures) c.point_price.result
+          (subst (λ (numbers : List ℤ). PricedAt (λ m. day_ahead_price m (table_grid numbers) book) (hub 1) c.point_price.result)
+          (c.over-table.ensures.made ∙ c.factors_n-factors.ensures) c.point_price.ensures);
     }

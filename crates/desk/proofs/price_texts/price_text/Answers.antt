@@ -1,9 +1,8 @@
-use Rattle.std.proofs.Common.{rules}
 use Rattle.desk.proofs.Amounts.{tells}
 use Rattle.desk.proofs.price_texts.price_text.Goals as goal
 
-pub returns-in-err-dollars : goal.returns-in-err-dollars
-returns-in-err-dollars c = record { value = search rules; tells = tells c.args.cents c.ranges.cents }
+pub returns-in_err-dollars-clause-tells : goal.returns-in_err-dollars-clause-tells
+returns-in_err-dollars-clause-tells c = tells c.args.cents c.ranges.cents
 
-pub returns : goal.returns
-returns c = record { value = search rules; tells = tells c.args.cents c.ranges.cents }
+pub returns-clause-tells : goal.returns-clause-tells
+returns-clause-tells c = tells c.args.cents c.ranges.cents

@@ -8,4 +8,4 @@ use Rattle.desk.proofs.prices.day_ahead.Goals as goal
 pub returns : goal.returns
 unfolding market_price
 returns c =
-    subst (λ (table : List ℤ). PricedAt (λ m. day_ahead_price m (table_grid table) c.args.book.now) c.args.point c.point-price.result) c.over-table.ensures.made c.point-price.ensures
+    subst (λ (table : List ℤ). PricedAt (λ m. day_ahead_price m (table_grid table) c.args.book.now) c.args.point c.point_price.result) c.over-table.ensures.made c.point_price.ensures

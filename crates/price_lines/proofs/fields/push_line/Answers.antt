@@ -9,23 +9,23 @@ pub returns : goal.returns
 unfolding line
 returns g c =
     let was = c.args.page.now in
-    let one = c.push-point.new.page in
+    let one = c.push_point.new.page in
     let two = c.push.new.self in
-    let three = c.push-price.new.page in
+    let three = c.push_price.new.page in
     let four = c.push-2.new.self in
     let point = point_fields c.args.point in
     let price = price_fields c.args.price in
     record {
       added =
-          and_then g.row.N (written was) (written one) (written four) point (44 ∷ (price ++ (10 ∷ []))) c.push-point.ensures.added
+          and_then g.row.N (written was) (written one) (written four) point (44 ∷ (price ++ (10 ∷ []))) c.push_point.ensures.added
           (and_then g.row.N (written one) (written two) (written four) (44 ∷ []) (price ++ (10 ∷ [])) c.push.ensures
-          (and_then g.row.N (written two) (written three) (written four) price (10 ∷ []) c.push-price.ensures.added c.push-2.ensures));
+          (and_then g.row.N (written two) (written three) (written four) price (10 ∷ []) c.push_price.ensures.added c.push-2.ensures));
       short =
           omega (
             arith,
             length-append point (44 ∷ (price ++ (10 ∷ []))),
             length-append price (10 ∷ []),
-            c.push-point.ensures.short,
-            c.push-price.ensures.short,
+            c.push_point.ensures.short,
+            c.push_price.ensures.short,
           );
     }

@@ -10,19 +10,19 @@ use Rattle.price_lines.proofs.fields.push_point.Goals as goal
 pub returns : goal.returns
 returns g c =
     let was = c.args.page.now in
-    let one = c.push-all.new.self in
+    let one = c.push_all.new.self in
     let two = c.push.new.self in
     let three = c.push-2.new.self in
-    let four = c.push-number.new.self in
+    let four = c.push_number.new.self in
     let kind = kind_letter c.args.point.kind in
     let z = c.args.point.number in
     let fits : SFits w64 c.args.point.number = search rules in
     record {
       added =
-          and_then g.row.N (written was) (written one) (written four) (80 ∷ 44 ∷ []) (kind ∷ 44 ∷ signed_decimal z) c.push-all.ensures
+          and_then g.row.N (written was) (written one) (written four) (80 ∷ 44 ∷ []) (kind ∷ 44 ∷ signed_decimal z) c.push_all.ensures
           (and_then g.row.N (written one) (written two) (written four) (kind ∷ []) (44 ∷ signed_decimal z)
-          (c.push.ensures ∙ ap (λ (n : ℕ). take g.row.N (written one ++ (n ∷ []))) c.kind-letter.ensures)
+          (c.push.ensures ∙ ap (λ (n : ℕ). take g.row.N (written one ++ (n ∷ []))) c.kind_letter.ensures)
           (and_then g.row.N (written two) (written three) (written four) (44 ∷ []) (signed_decimal z) c.push-2.ensures
-          (c.push-number.ensures ∙ ap (λ (y : ℤ). take g.row.N (written three ++ signed_decimal y)) (to_z-of_z w64 z fits))));
+          (c.push_number.ensures ∙ ap (λ (y : ℤ). take g.row.N (written three ++ signed_decimal y)) (to_z-of_z w64 z fits))));
       short = omega (arith, signed_short z fits);
     }

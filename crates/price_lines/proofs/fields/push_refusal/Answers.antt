@@ -14,7 +14,7 @@ returns g c =
     to_z-of_z w64 c.from.result fits ∙ c.from.ensures ∙ ap pos c.number.ensures.value in
     record {
       added =
-          and_then g.row.N (written c.args.page.now) (written c.push-all.new.self) (written c.push-number.new.self) (82 ∷ 44 ∷ []) (decimal (number c.args.refusal))
-          c.push-all.ensures (c.push-number.ensures ∙ ap (λ (z : ℤ). take g.row.N (written c.push-all.new.self ++ signed_decimal z)) is);
+          and_then g.row.N (written c.args.page.now) (written c.push_all.new.self) (written c.push_number.new.self) (82 ∷ 44 ∷ []) (decimal (number c.args.refusal))
+          c.push_all.ensures (c.push_number.ensures ∙ ap (λ (z : ℤ). take g.row.N (written c.push_all.new.self ++ signed_decimal z)) is);
       short = omega (arith, refusal_short c.args.refusal);
     }

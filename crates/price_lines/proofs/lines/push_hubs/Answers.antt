@@ -13,6 +13,6 @@ pub loop-hub-preserved : goal.loop-hub-preserved
 loop-hub-preserved g c =
     let price = g.M.Market.price c.args.market.now in
     let i = c.loop-hub.hub-index in
-    let one : Adds {n = g.row.N} 1 (hub_line price (get_or hubs i North)) c.loop-hub.page c.push-hub.new.page = c.push-hub.ensures in
-    subst (λ (t : List ℕ). Adds {n = g.row.N} (i + 1) t c.args.page.now c.push-hub.new.page) (joined_take_more (hub_line price) hubs i North (omega arith))
-    (adds_more i (flat_map (hub_line price) (take i hubs)) (hub_line price (get_or hubs i North)) c.args.page.now c.loop-hub.page c.push-hub.new.page c.loop-hub.invariant one)
+    let one : Adds {n = g.row.N} 1 (hub_line price (get_or hubs i North)) c.loop-hub.page c.push_hub.new.page = c.push_hub.ensures in
+    subst (λ (t : List ℕ). Adds {n = g.row.N} (i + 1) t c.args.page.now c.push_hub.new.page) (joined_take_more (hub_line price) hubs i North (omega arith))
+    (adds_more i (flat_map (hub_line price) (take i hubs)) (hub_line price (get_or hubs i North)) c.args.page.now c.loop-hub.page c.push_hub.new.page c.loop-hub.invariant one)

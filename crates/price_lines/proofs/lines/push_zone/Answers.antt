@@ -4,12 +4,12 @@ use Rattle.hour.specs.Hour.{entries}
 use Rattle.price_lines.proofs.Adding.{zone_added, zone_left_out}
 use Rattle.price_lines.proofs.lines.push_zone.Goals as goal
 
-pub returns-then-has-bus : goal.returns-then-has-bus
-returns-then-has-bus g c =
+pub returns-then-has_bus : goal.returns-then-has_bus
+returns-then-has_bus g c =
     let fits : SFits w64 c.from.result = search rules in
-    zone_added (g.M.Market.price c.args.market.now) (entries c.args.book.now) c.args.zone (to_z w64 (of_z w64 c.from.result)) c.args.page.now c.push-priced.new.page
-    (to_z-of_z w64 c.from.result fits ∙ c.from.ensures) c.requires.0 c.requires.1 (sym c.if-has-bus.ensures) c.push-priced.ensures
+    zone_added (g.M.Market.price c.args.market.now) (entries c.args.book.now) c.args.zone (to_z w64 (of_z w64 c.from.result)) c.args.page.now c.push_priced.new.page
+    (to_z-of_z w64 c.from.result fits ∙ c.from.ensures) c.requires.0 c.requires.1 (sym c.if-has_bus.ensures) c.push_priced.ensures
 
-pub returns-else-has-bus : goal.returns-else-has-bus
-returns-else-has-bus g c =
-    zone_left_out (g.M.Market.price c.args.market.now) (entries c.args.book.now) c.args.zone c.args.page.now (sym c.if-has-bus.ensures)
+pub returns-else-has_bus : goal.returns-else-has_bus
+returns-else-has_bus g c =
+    zone_left_out (g.M.Market.price c.args.market.now) (entries c.args.book.now) c.args.zone c.args.page.now (sym c.if-has_bus.ensures)

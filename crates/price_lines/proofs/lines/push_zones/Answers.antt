@@ -15,8 +15,8 @@ loop-zone-preserved g c =
     let price = g.M.Market.price c.args.market.now in
     let h = entries c.args.book.now in
     let zone = c.loop-zone.zone in
-    let P : ℕ → List ℕ → Type 0 = λ k t. Adds {n = g.row.N} k t c.args.page.now c.push-zone.new.page in
+    let P : ℕ → List ℕ → Type 0 = λ k t. Adds {n = g.row.N} k t c.args.page.now c.push_zone.new.page in
     let count : zone - 1 + 1 ≡ zone + 1 - 1 = omega arith in
     subst (λ (k : ℕ). P k (flat_map (zone_line price) (zones_to h (zone + 1 - 1)))) count
     (subst (P (zone - 1 + 1)) (zones_step price h zone (omega arith))
-    (adds_more (zone - 1) (flat_map (zone_line price) (zones_to h (zone - 1))) (zone_text price h zone) c.args.page.now c.loop-zone.page c.push-zone.new.page c.loop-zone.invariant c.push-zone.ensures))
+    (adds_more (zone - 1) (flat_map (zone_line price) (zones_to h (zone - 1))) (zone_text price h zone) c.args.page.now c.loop-zone.page c.push_zone.new.page c.loop-zone.invariant c.push_zone.ensures))

@@ -9,12 +9,12 @@ pub loop-b-init : goal.loop-b-init
 unfolding any_below
 loop-b-init c = refl
 
-pub returns-then-is-placed : goal.returns-then-is-placed
-returns-then-is-placed c =
+pub returns-then-is_placed : goal.returns-then-is_placed
+returns-then-is_placed c =
     sym (some_here (λ b. eqb (bus_at (entries c.args.book.now) b).zone c.args.zone) 256 c.loop-b.b c.loop-b-test.true
-    (ap (λ (x : Bus). eqb x.zone c.args.zone) (sym c.bus.ensures.value) ∙ sym c.if-is-placed.ensures))
+    (ap (λ (x : Bus). eqb x.zone c.args.zone) (sym c.bus.ensures.value) ∙ sym c.if-is_placed.ensures))
 
 pub loop-b-preserved : goal.loop-b-preserved
 loop-b-preserved c =
     none_more (λ b. eqb (bus_at (entries c.args.book.now) b).zone c.args.zone) c.loop-b.b c.loop-b.invariant
-    (ap (λ (x : Bus). eqb x.zone c.args.zone) (sym c.bus.ensures.value) ∙ sym c.if-is-placed.ensures)
+    (ap (λ (x : Bus). eqb x.zone c.args.zone) (sym c.bus.ensures.value) ∙ sym c.if-is_placed.ensures)

@@ -18,9 +18,9 @@ pub returns-in-Ok : goal.returns-in-Ok
 returns-in-Ok c =
     let text = saved_text (entries c.args.book.now) in
     let saved = c.in-Ok.ensures.saved in
-    let room = c.in-ok-buffer.ensures.len in
-    let long = c.as-mut-slice.ensures.len in (
+    let room = c.in_ok-buffer.ensures.len in
+    let long = c.as_mut_slice.ensures.len in (
       c.truncate.ensures.items
-          ∙ only_text text c.save.new.out (drop c.in-Ok.length c.as-mut-slice.result.now) _ c.in-Ok.length c.in-ok-buffer.buffer.len saved.0 (omega (arith, saved.1, long)) saved.2,
+          ∙ only_text text c.save.new.out (drop c.in-Ok.length c.as_mut_slice.result.now) _ c.in-Ok.length c.in_ok-buffer.buffer.len saved.0 (omega (arith, saved.1, long)) saved.2,
       omega (arith, saved.0, saved.1, long, room),
     )

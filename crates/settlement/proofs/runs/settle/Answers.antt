@@ -42,18 +42,18 @@ loop-deed-preserved g c =
     let rest = drop (i + 1) deeds in
     let h = entries c.loop-deed.book in
     let new = c.work.new.book in
-    let a = c.in-ok-work.field-0 in
+    let a = c.in_ok-work.field-0 in
     let so_far = vec_items c.loop-deed.answers in
     let inside = c.loop-deed-test.true in
-    let steps : entries new ≡ after_deed h d = c.in-ok-work.ensures.hour in
+    let steps : entries new ≡ after_deed h d = c.in_ok-work.ensures.hour in
     let left : drop i deeds ≡ d ∷ rest = at_drop_more (λ (xs : List Deed). xs) deeds i none inside in
     let now_is : entries new ≡ hour_of (take (i + 1) deeds) = steps ∙ ap (λ (x : Hour). after_deed x d) c.loop-deed.invariant.0 ∙ sym (hour_more deeds i none inside) in (
       now_is,
       λ others all.
-          subst (λ (xs : List Answer). AnswersAll m posted fresh deeds xs) (sym (ap (λ (xs : List Answer). xs ++ others) c.in-ok-push.ensures.items ∙ append_assoc so_far (a ∷ []) others))
+          subst (λ (xs : List Answer). AnswersAll m posted fresh deeds xs) (sym (ap (λ (xs : List Answer). xs ++ others) c.in_ok-push.ensures.items ∙ append_assoc so_far (a ∷ []) others))
           (c.loop-deed.invariant.1 (a ∷ others)
           (subst (λ (xs : List Deed). AnswersAll m posted h xs (a ∷ others)) (sym left)
-          (c.in-ok-work.ensures.answer, subst (λ (x : Hour). AnswersAll m posted x rest others) steps all))),
+          (c.in_ok-work.ensures.answer, subst (λ (x : Hour). AnswersAll m posted x rest others) steps all))),
       λ k low.
           ⊎_elim
           (λ (less : k < i + 1). c.loop-deed.invariant.2 k (omega arith))

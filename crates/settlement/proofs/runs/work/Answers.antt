@@ -11,10 +11,10 @@ returns-in-Price g c =
     let m = g.W.Weighting.meaning c.args.weighting.now in
     let posted = g.P.Posting.grid c.args.posting.now in
     let book = c.args.book.now in
-    let r = c.point-price.result in
+    let r = c.point_price.result in
     record {
       hour = search rules;
-      answer = subst (λ (d : Deed). Answers m posted (entries book) d (answer.Priced r)) (sym c.in-Price.is) (λ other e. point_of_hour c.in-Price.market c.in-Price.point posted book other r (sym e) c.point-price.ensures);
+      answer = subst (λ (d : Deed). Answers m posted (entries book) d (answer.Priced r)) (sym c.in-Price.is) (λ other e. point_of_hour c.in-Price.market c.in-Price.point posted book other r (sym e) c.point_price.ensures);
     }
 
 pub returns-in-PriceWeighting : goal.returns-in-PriceWeighting
@@ -22,8 +22,8 @@ returns-in-PriceWeighting g c =
     let m = g.W.Weighting.meaning c.args.weighting.now in
     let posted = g.P.Posting.grid c.args.posting.now in
     let book = c.args.book.now in
-    let r = c.weighting-price.result in
+    let r = c.weighting_price.result in
     record {
       hour = search rules;
-      answer = subst (λ (d : Deed). Answers m posted (entries book) d (answer.Priced r)) (sym c.in-PriceWeighting.is) (λ other e. weighting_of_hour c.in-PriceWeighting.market m posted book other r (sym e) c.weighting-price.ensures);
+      answer = subst (λ (d : Deed). Answers m posted (entries book) d (answer.Priced r)) (sym c.in-PriceWeighting.is) (λ other e. weighting_of_hour c.in-PriceWeighting.market m posted book other r (sym e) c.weighting_price.ensures);
     }
