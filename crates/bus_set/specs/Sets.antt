@@ -1,5 +1,5 @@
 -- Sets of buses as four words of 64 bits, and how many buses a set has.
-use Rattle.std.specs.Prelude.{◌≡◌, ℕ, zero, suc, ◌+◌, ◌-◌, ◌/◌, ◌%◌, ◌^◌, ◌<◌, Bool, true, false, cond, ◌&&◌, List, length, set, ◌==◌, bit_and, bit_or, nat_lt, slice_index, slice_set}
+use Rattle.std.specs.Prelude.{◌≡◌, ℕ, zero, suc, ◌+◌, ◌-◌, ◌/◌, ◌%◌, ◌^◌, ◌<◌, Bool, true, false, cond, ◌&&◌, List, length, ◌==◌, bit_and, bit_or, nat_lt, slice_index, slice_set}
 
 abbrev pub is_word : List ℕ → ℕ → Bool
 is_word words i = nat_lt (slice_index words i) (2 ^ 64)

@@ -1,4 +1,6 @@
 // Sets of the 256 buses as four words of 64 bits, taken and answered by value: bit b % 64 of word b / 64 is bus b.
+#![tactic(auto)]
+
 ghost use Rattle.std.specs.Prelude.{◌≡◌, ℕ, ◌<◌, true, false, not, ◌&&◌, if◌then◌else◌, nat_eq};
 ghost use Rattle.bus_set.specs.Sets.{member, marked, with_bit, SetOf, count_below, four_words};
 

@@ -1,4 +1,6 @@
 // Whole numbers read from the bytes of a field.
+#![tactic(auto)]
+
 ghost use Rattle.std.specs.Prelude.{◌≡◌, ◌-◌, true, false, ℤ, Ok, MatchResult, ◌==◌, slice_index};
 ghost use Rattle.std.specs.Char.{is_ascii_digit};
 ghost use Rattle.std.specs.Fmt.{signed_decimal};

@@ -1,4 +1,6 @@
 // A desk's session with one hour book: a line in, a reply out.
+#![tactic(auto)]
+
 pub mod console;
 pub mod factors;
 pub mod price_texts;

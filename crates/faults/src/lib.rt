@@ -1,4 +1,6 @@
 // What is wrong with a text, and where.
+#![tactic(auto)]
+
 ghost use Rattle.std.specs.Prelude.{◌≡◌, IsErrAnd, Ok, MatchResult};
 ghost use Rattle.faults.specs.declared.Why.TheVariants.{Value};
 ghost use Rattle.faults.specs.Faults.{fault_number, inner_number, layer_of, letter_of, in_line};

@@ -1,5 +1,5 @@
 -- Two places of different buses commute where each is granted in either order.
-use Rattle.std.proofs.Common.{◌≡◌, ℕ, Bool, true, false, List, get_or, set, ℤ, pos, is_ok, Some, None, Ok, Err, Option, sym, refl, ap, ◌∙◌, subst, ap₂}
+use Rattle.std.proofs.Common.{◌≡◌, ℕ, true, false, List, get_or, set, ℤ, pos, is_ok, Some, None, Ok, Option, sym, refl, ap, ◌∙◌}
 use Rattle.std.proofs.lemmas.List.{get_or-set_other, set_comm}
 use Rattle.std.proofs.lemmas.Bool.{both_ways}
 use Rattle.refusals.specs.declared.Refusal.TheVariants.{BusOutside, HubBusOutside, ZoneOutside, HubBusFull}

@@ -1,5 +1,5 @@
 -- The laws of the calls.
-use Rattle.std.proofs.Common.{◌≡◌, Ok, Err, ap}
+use Rattle.std.proofs.Common.{◌≡◌, Err, ap}
 use Rattle.refusals.specs.declared.Refusal.{Refusal}
 use Rattle.hour.specs.Hour.{Hour}
 use Rattle.hour.specs.Steps.{Outcome}

@@ -1,7 +1,6 @@
 -- The live buses of a hub bus are 1 to 8 where it has one.
-use Rattle.std.proofs.Common.{◌≡◌, ℕ, ◌<◌, ◌≤◌, Bool, true, ◌&&◌, length, get_or, sym, refl, ap, ◌∙◌, arith}
+use Rattle.std.proofs.Common.{◌≡◌, ℕ, ◌<◌, ◌≤◌, Bool, true, ◌&&◌, arith}
 use Rattle.std.proofs.lemmas.Bool.{and_parts, and_from, eq-eqb}
-use Rattle.bus_set.specs.Sets.{count_below}
 use Rattle.bus_set.proofs.Counts.{count_le, count_some, count_list}
 use Rattle.hour.specs.Sound.{in_hub_bus}
 use Rattle.hour.specs.Hour.{entries, bus_at, no_bus}

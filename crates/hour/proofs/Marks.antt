@@ -1,15 +1,15 @@
 -- Outage marks, and the seconds of the runs, after the calls that change them.
-use Rattle.std.proofs.Common.{◌≡◌, ℕ, ◌+◌, ◌-◌, ◌<◌, ◌≤◌, Bool, true, false, cond, not, ◌&&◌, eqb, leb, List, length, get_or, set, ℤ, pos, is_ok, Some, None, Ok, Err, Option, sym, refl, ap, ◌∙◌, subst, ap₂, ⊎_elim, arith}
+use Rattle.std.proofs.Common.{◌≡◌, ℕ, ◌+◌, ◌-◌, ◌<◌, ◌≤◌, Bool, true, false, cond, not, ◌&&◌, eqb, List, length, get_or, set, ℤ, pos, Some, None, Option, sym, refl, ap, ◌∙◌, subst, ap₂, ⊎_elim, arith}
 use lib.Signed.{le_z}
 use Rattle.std.proofs.lemmas.List.{get_or-set_same, get_or-set_other, get_or_past, set_past}
-use Rattle.std.proofs.lemmas.Bool.{cases_eq, cases_lt, eq-eqb, ne_eqb, cond-true, cond-false, both_ways}
+use Rattle.std.proofs.lemmas.Bool.{cases_eq, cases_lt, eq-eqb, ne_eqb}
 use Rattle.bus_set.specs.Sets.{member, marked, four_words}
 use Rattle.bus_set.proofs.Sets.{no_members, member_with, words_length}
 use Rattle.hour.specs.Limits.{up_to, within, last_bus, last_constraint, most_shadow_price, last_run, most_adder, most_seconds}
 use Rattle.hour.specs.Sound.{when_some, constraint_sound, total_seconds, seconds_of}
-use Rattle.hour.specs.Hour.{Hour, entries, constraint_at, with_constraint, with_run, out_of, run_at}
-use Rattle.hour.specs.Steps.{Outcome, given, refuse_if, other_seconds}
-use Rattle.hour.specs.Replays.{step, after, left}
+use Rattle.hour.specs.Hour.{Hour, entries, constraint_at, out_of}
+use Rattle.hour.specs.Steps.{other_seconds}
+use Rattle.hour.specs.Replays.{after}
 use Rattle.hour.specs.Live.{is_out}
 use Rattle.hour.specs.Laws.{Granted}
 use Rattle.hour.specs.declared.records.Constraint.{Constraint}

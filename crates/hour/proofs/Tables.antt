@@ -1,5 +1,5 @@
 -- Lists of records: tests that pass at each element, and counts.
-use Rattle.std.proofs.Common.{◌≡◌, ℕ, zero, suc, ◌+◌, ◌-◌, ◌<◌, ◌≤◌, Bool, true, false, cond, ◌&&◌, eqb, leb, List, [], ◌∷◌, ◌++◌, length, get_or, take, drop, set, ℤ, pos, negsuc, Some, None, sum_by, count_by, Option, sym, refl, ap, ◌∙◌, subst, ⊎_elim, le_of_suc-le-suc, not-suc-le-zero, arith}
+use Rattle.std.proofs.Common.{◌≡◌, ℕ, zero, suc, ◌+◌, ◌<◌, ◌≤◌, Bool, true, false, cond, eqb, leb, List, [], ◌∷◌, ◌++◌, length, get_or, take, drop, set, ℤ, pos, negsuc, Some, None, sum_by, Option, sym, refl, ap, ◌∙◌, subst, ⊎_elim, le_of_suc-le-suc, not-suc-le-zero, arith}
 use Rattle.bus_set.specs.Sets.{four_words}
 use Rattle.std.specs.List.{remove}
 use Rattle.std.proofs.lemmas.Bool.{and_parts, and_from, eqb-true, eq-eqb, le-leb, leb-true, cond-true, cond-false, cases_Bool}
@@ -8,7 +8,7 @@ use Rattle.std.proofs.lemmas.List.Sums.{sum_by-append, sum_by-cons, sum_by-set}
 use Rattle.std.proofs.lemmas.List.{set_split, set-get_or}
 use Rattle.hour.specs.Sound.{all_by, when_some, constraint_sound, in_hub_bus, hub_bus_size, FewPerHubBus, bus_sound, run_sound}
 use Rattle.hour.specs.Limits.{up_to, within}
-use Rattle.hour.specs.Hour.{Hour, no_bus, out_of}
+use Rattle.hour.specs.Hour.{Hour, out_of}
 use Rattle.hour.specs.Steps.{is_full, other_buses, placed_in, with_status, with_load}
 use Rattle.hour.specs.declared.records.Market.{Market}
 use Rattle.hour.specs.declared.records.Market.TheVariants.{DayAhead, RealTime}

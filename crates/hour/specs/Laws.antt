@@ -1,5 +1,5 @@
 -- Laws of the calls, in the words of a desk that works an hour.
-use Rattle.std.specs.Prelude.{◌≡◌, ℕ, ◌+◌, ◌<◌, Bool, true, false, cond, ◌&&◌, ℤ, pos, is_ok, Some, None, Ok, Err, Option, ◌==◌, ◌≢◌}
+use Rattle.std.specs.Prelude.{◌≡◌, ℕ, ◌+◌, ◌<◌, Bool, true, false, cond, ◌&&◌, ℤ, pos, is_ok, Some, None, Err, Option, ◌==◌, ◌≢◌}
 use Rattle.refusals.specs.declared.Refusal.{Refusal}
 use Rattle.hour.specs.Sound.{total_seconds}
 use Rattle.hour.specs.Hour.{Hour, entries, bus_at, constraint_at, run_at}

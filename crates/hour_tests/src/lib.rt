@@ -1,4 +1,5 @@
 // Examples of the hour book.
+#![tactic(auto)]
 
 #[cfg(test)]
 mod tests {

@@ -1,4 +1,6 @@
 // The program `hourbook` on a script of bad input: every limit from both sides, every refusal, and lines that are no call.
+#![tactic(auto)]
+
 use desk::console::work_input;
 use std::io;
 

@@ -1,4 +1,6 @@
 // Division of whole numbers to a whole number, with halves toward the higher one.
+#![tactic(auto)]
+
 ghost use Rattle.std.specs.Prelude.{◌≡◌, ℤ, MatchOption};
 ghost use Rattle.numbers.specs.Rounding.{half_up, Nearest, HalvesRise};
 

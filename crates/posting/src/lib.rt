@@ -1,4 +1,6 @@
 // Postings: a whole number for each bus and column, and the layers that read one posting through another.
+#![tactic(auto)]
+
 ghost use Rattle.std.specs.Prelude.{◌≡◌};
 ghost use Rattle.posting.specs.Grids.{Grid};
 

@@ -1,4 +1,5 @@
 // Posting text: lines of numbers by bus and column, checked, read directly, and written into a table.
+#![tactic(auto)]
 
 pub mod checking;
 pub mod direct;

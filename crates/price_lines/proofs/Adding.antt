@@ -7,7 +7,6 @@ use Rattle.hour.specs.Hour.{Hour}
 use Rattle.weighting.specs.Meanings.{Meaning}
 use Rattle.weighting.specs.Zones.{zone_meaning}
 use Rattle.weighting.specs.declared.points.Kind.TheVariants as kind
-use Rattle.weighting.specs.declared.zones.Zone.{Zone}
 use Rattle.pricing.specs.Origins.{Priced, own_price}
 use Rattle.pricing.specs.Points.{PricedAt}
 use Rattle.page.specs.Pages.{written}

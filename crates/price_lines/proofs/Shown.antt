@@ -1,5 +1,5 @@
 -- The price lines show what the pricing call answers for each listed point.
-use Rattle.std.proofs.Common.{◌≡◌, ℕ, zero, suc, ◌+◌, ◌<◌, ◌≤◌, Bool, true, false, cond, eqb, List, [], ◌∷◌, ◌++◌, map, take, drop, ℤ, pos, ◌<ℤ◌, IfOk, Ok, Err, Result, sym, refl, ap, ◌∙◌, subst, inl, inr, ⊎_elim, arith, lit<, eq-eqb, eqb-true}
+use Rattle.std.proofs.Common.{◌≡◌, ℕ, zero, suc, ◌<◌, ◌≤◌, Bool, true, false, cond, eqb, List, [], ◌∷◌, ◌++◌, map, take, drop, ℤ, pos, ◌<ℤ◌, IfOk, Ok, Err, Result, sym, refl, ap, ◌∙◌, subst, inl, inr, ⊎_elim, arith, lit<, eq-eqb, eqb-true}
 use mathlib.Core.List.{map-append}
 use Rattle.std.specs.List.{flat_map, ContainsAt as Has, AllByRecursion as All}
 use Rattle.std.proofs.lemmas.List.{get_or-map, length-map, take_at}
@@ -15,7 +15,6 @@ use Rattle.weighting.specs.declared.hubs.Hub.{Hub}
 use Rattle.weighting.specs.declared.hubs.Hub.TheVariants.{North, South, Houston, West, Panhandle, Average}
 use Rattle.weighting.specs.declared.points.Kind.{Kind}
 use Rattle.weighting.specs.declared.points.Kind.TheVariants as kind
-use Rattle.weighting.specs.declared.zones.Zone.{Zone}
 use Rattle.pricing.specs.Origins.{own_price}
 use Rattle.pricing.specs.Points.{PricedAt, hub_priced}
 use Rattle.page.specs.Copies.{Copies}

@@ -1,4 +1,6 @@
 // The day-ahead prices of an hour as lines of text, one for each hub and for each load zone that has a bus.
+#![tactic(auto)]
+
 ghost use Rattle.std.specs.Prelude.{◌≡◌, take, IfOk};
 ghost use Rattle.hour.specs.Hour.{entries};
 ghost use Rattle.page.specs.Copies.{Copies};

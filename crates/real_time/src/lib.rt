@@ -1,2 +1,4 @@
 // Real-time prices of any weighting over any posting.
+#![tactic(auto)]
+
 pub mod prices;

@@ -1,4 +1,6 @@
 // Why a call is refused, and the number that a user is given for it.
+#![tactic(auto)]
+
 ghost use Rattle.std.specs.Prelude.{◌≡◌};
 ghost use Rattle.refusals.specs.Numbers.{number};
 ghost use Rattle.refusals.specs.Words.{meaning};

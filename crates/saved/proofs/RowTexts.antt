@@ -11,7 +11,7 @@ use Rattle.decimals.specs.Decimals.{decimal_of}
 use Rattle.decimals.specs.Canonical.{FewDigits}
 use Rattle.decimals.proofs.Signs.{own, never, decimal_signed, signed_decimal}
 use Rattle.cuts.specs.Cuts.{split, join}
-use Rattle.cuts.specs.Fields.{comma, form_at, not_status, status_of, number, status, end}
+use Rattle.cuts.specs.Fields.{comma, form_at, not_status, status_of, number, status}
 use Rattle.cuts.proofs.Cutting.{Plain, split_join, join_split}
 use Rattle.cuts.proofs.Taking.{taken_field, ended}
 use Rattle.saved_rows.specs.Laws.{Writable}

@@ -1,3 +1,5 @@
 // The saved text of an hour, read and written.
+#![tactic(auto)]
+
 pub mod line;
 pub mod reading;

@@ -1,7 +1,7 @@
 -- A bus line entered by the calls of the book.
-use Rattle.std.proofs.Common.{◌≡◌, ℕ, ◌^◌, ◌<◌, ◌≤◌, Bool, true, false, List, length, get_or, set, ℤ, pos, is_ok, IsErrAnd, Some, None, Ok, Err, Option, Result, sym, refl, ap, ◌∙◌, subst, arith, w64, SFits, to_z, of_z, MatchResult}
+use Rattle.std.proofs.Common.{◌≡◌, ℕ, ◌^◌, ◌<◌, Bool, true, false, List, length, ℤ, pos, is_ok, IsErrAnd, Some, None, Ok, Err, Option, Result, sym, refl, ap, ◌∙◌, subst, arith, w64, to_z, of_z, MatchResult}
 use Rattle.std.proofs.lemmas.List.{get_or-set_same, set-set}
-use Rattle.std.proofs.lemmas.Int.{ints, to_z-of_z}
+use Rattle.std.proofs.lemmas.Int.{ints}
 use Rattle.std.proofs.lemmas.Bool.{both_ways}
 use Rattle.refusals.specs.declared.Refusal.{Refusal}
 use Rattle.refusals.specs.declared.Refusal.TheVariants.{BusOutside, HubBusOutside, ZoneOutside, HubBusFull, LoadOutside}
@@ -14,7 +14,7 @@ use Rattle.hour.specs.declared.records.Bus.{Bus}
 use Rattle.hour.specs.declared.records.Market.{Market}
 use Rattle.hour.specs.declared.records.Market.TheVariants.{DayAhead, RealTime}
 use Rattle.hour.proofs.Tables.{up_to_is, up_to_low}
-use Rattle.saved_rows.specs.Entering.{Given, valued, unless, refused_at, bus_given, bus_put, Enters}
+use Rattle.saved_rows.specs.Entering.{Given, valued, unless, bus_given, bus_put, Enters}
 use Rattle.saved_rows.specs.declared.row.BusRow.{BusRow}
 
 -- a call's argument as it comes to the callee

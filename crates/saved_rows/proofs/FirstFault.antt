@@ -1,12 +1,11 @@
 -- The fault of lines that are not taken is their first.
-use Rattle.std.proofs.Common.{◌≡◌, ℕ, suc, ◌+◌, ◌-◌, Bool, true, false, cond, ◌⊎◌, List, [], ◌∷◌, ◌++◌, length, Ok, Err, Result, sym, refl, ap, ◌∙◌, subst, inl, inr, arith}
+use Rattle.std.proofs.Common.{◌≡◌, ℕ, ◌+◌, ◌-◌, Bool, true, false, cond, List, [], ◌∷◌, ◌++◌, length, Ok, Err, Result, sym, refl, ap, ◌∙◌, subst, inl, inr, arith}
 use Rattle.faults.specs.declared.Spot.{Spot}
 use Rattle.faults.specs.declared.Fault.{Fault}
 use Rattle.faults.specs.Faults.{fault, in_line}
-use Rattle.hour.specs.Hour.{Hour}
 use Rattle.saved_rows.specs.Order.{finished}
 use Rattle.saved_rows.specs.Running.{Place, begin, step, onward, run_rows, misended}
-use Rattle.saved_rows.specs.Laws.{reached, Wrong, First, FirstFault}
+use Rattle.saved_rows.specs.Laws.{reached, Wrong, FirstFault}
 use Rattle.saved_rows.specs.declared.row.Row.{Row}
 
 same_err : {A E : Type 0} (d e : E) → ◌≡◌ {A = Result A E} (Err d) (Err e) → e ≡ d

@@ -1,18 +1,17 @@
 -- Lines that are taken are the lines of the hour that they make: each is one more line of the hour so far.
-use Rattle.std.proofs.Common.{◌≡◌, ℕ, zero, suc, ◌+◌, ◌-◌, ◌/◌, ◌<◌, ◌≤◌, Bool, true, false, cond, not, ◌&&◌, eqb, ltb, leb, List, [], ◌∷◌, ◌++◌, length, get_or, set, replicate, ℤ, pos, negsuc, is_ok, Some, None, Ok, Err, Option, Result, sym, refl, ap, ◌∙◌, subst, append_assoc, append-nil, arith, length-set}
+use Rattle.std.proofs.Common.{◌≡◌, ℕ, suc, ◌+◌, ◌-◌, ◌/◌, ◌<◌, ◌≤◌, Bool, true, false, cond, not, ◌&&◌, eqb, List, [], ◌∷◌, ◌++◌, length, get_or, replicate, ℤ, pos, negsuc, is_ok, Some, None, Ok, Err, Option, Result, sym, refl, ap, ◌∙◌, subst, append_assoc, append-nil, arith, length-set}
 use lib.Signed.{lt_z, le_z}
 use Rattle.std.proofs.lemmas.List.{get_or-set_same, length_push}
 use Rattle.std.proofs.lemmas.Bool.{cond-true, cond-false, ltb-true, eqb-true, eq-eqb, ne_eqb, and_parts}
 use Rattle.refusals.specs.declared.Refusal.{Refusal}
 use Rattle.refusals.specs.declared.Refusal.TheVariants.{ConstraintOutside, BusOutside, HubBusFull, ShadowPriceOutside, NotPosted, LambdaOutside, RunOutside, SecondsOutside, AdderOutside}
 use Rattle.faults.specs.declared.Spot.{Spot}
-use Rattle.faults.specs.declared.Fault.{Fault}
 use Rattle.faults.specs.declared.Why.TheVariants.{Ending}
 use Rattle.faults.specs.Faults.{spot, fault, in_line}
-use Rattle.bus_set.specs.Sets.{member, marked, with_bit}
+use Rattle.bus_set.specs.Sets.{member, marked}
 use Rattle.bus_set.proofs.Sets.{no_members, member_with}
 use Rattle.hour.specs.Limits.{up_to, within, most_lambda, most_shadow_price, most_adder}
-use Rattle.hour.specs.Hour.{Hour, fresh, no_bus, with_bus, with_constraint, with_run, constraint_at, out_of}
+use Rattle.hour.specs.Hour.{Hour, no_bus, with_bus, with_constraint, with_run, constraint_at, out_of}
 use Rattle.hour.specs.Steps.{is_full, other_seconds, entered_run}
 use Rattle.hour.specs.declared.records.Bus.{Bus}
 use Rattle.hour.specs.declared.records.Constraint.{Constraint}
@@ -25,10 +24,10 @@ use Rattle.saved_rows.specs.declared.stage.Stage.{Stage}
 use Rattle.saved_rows.specs.declared.stage.Stage.TheVariants as stage
 use Rattle.saved_rows.specs.Order.{to_bus, to_lambda, to_constraint, to_outage, to_run, to_end, eq_z, finished, blank_bus, blank_row, in_order, follows, kind_of, next, misplaced}
 use Rattle.saved_rows.specs.Entering.{enter, valued, unless, refused_at, Given, bus_given, bus_put}
-use Rattle.saved_rows.specs.Rows.{indexed, bus_numbers, bus_rows, lambda_rows, outage_rows, constraint_rows, run_row, rows, all_rows}
-use Rattle.saved_rows.specs.Running.{Place, place, begin, onward, run_rows, step, step_by, misended}
+use Rattle.saved_rows.specs.Rows.{indexed, bus_numbers, bus_rows, lambda_rows, constraint_rows, run_row, rows, all_rows}
+use Rattle.saved_rows.specs.Running.{Place, place, onward, run_rows, step, step_by, misended}
 use Rattle.saved_rows.specs.Laws.{OnlySaved}
-use Rattle.saved_rows.proofs.Calls.{Values, values, valued_is}
+use Rattle.saved_rows.proofs.Calls.{values, valued_is}
 use Rattle.saved_rows.proofs.Marks.{outages_none, outages_grow}
 use Rattle.saved_rows.proofs.Tables.{From, from_later, from_set, from_replicate, replicate_length, indexed_none, indexed_grow}
 

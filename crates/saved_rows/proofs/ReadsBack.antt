@@ -2,7 +2,7 @@
 use Rattle.std.proofs.Common.{◌≡◌, ℕ, zero, suc, ◌+◌, ◌-◌, ◌/◌, ◌%◌, ◌^◌, ◌<◌, ◌≤◌, Bool, true, false, cond, not, ◌&&◌, eqb, ltb, leb, List, [], ◌∷◌, ◌++◌, length, get_or, set, replicate, ℤ, pos, negsuc, Some, None, Ok, Err, sum_by, Option, Result, sym, refl, ap, ◌∙◌, subst, ⊎_elim, append-nil, add-one, arith}
 use lib.Bits.{bit_or}
 use lib.Pow.{pow-lt}
-use lib.Signed.{lt_z, le_z}
+use lib.Signed.{lt_z}
 use Rattle.std.specs.List.{remove}
 use Rattle.std.proofs.lemmas.Nat.{or_lt, mod_below}
 use Rattle.std.proofs.lemmas.List.{get_or-set_same, set-set}
@@ -12,26 +12,25 @@ use Rattle.refusals.specs.declared.Refusal.TheVariants.{BusOutside, HubBusOutsid
 use Rattle.faults.specs.declared.Spot.{Spot}
 use Rattle.faults.specs.declared.Why.TheVariants.{Ending}
 use Rattle.faults.specs.Faults.{in_line, spot}
-use Rattle.bus_set.specs.Sets.{member, marked, four_words, SetOf, with_bit}
+use Rattle.bus_set.specs.Sets.{member, marked, four_words, SetOf}
 use Rattle.bus_set.proofs.Sets.{words_length, words_below, words_set, marked_more, marked_none, marked_all}
-use Rattle.hour.specs.Limits.{up_to, within, most_lambda, most_shadow_price, most_adder}
-use Rattle.hour.specs.Sound.{all_by, when_some, bus_sound, lambda_sound, constraint_sound, run_sound, FewPerHubBus, hub_bus_size, in_hub_bus, total_seconds, seconds_of}
-use Rattle.hour.specs.Hour.{Hour, entries, fresh, no_bus, with_bus, with_constraint, with_run, constraint_at, out_of}
-use Rattle.hour.specs.Steps.{is_full, other_seconds, entered_run}
+use Rattle.hour.specs.Limits.{up_to, within, most_shadow_price, most_adder}
+use Rattle.hour.specs.Sound.{when_some, bus_sound, lambda_sound, constraint_sound, run_sound, FewPerHubBus, hub_bus_size, in_hub_bus, total_seconds, seconds_of}
+use Rattle.hour.specs.Hour.{Hour, entries, no_bus, with_bus, with_constraint, with_run, constraint_at, out_of}
+use Rattle.hour.specs.Steps.{other_seconds, entered_run}
 use Rattle.hour.specs.declared.records.Bus.{Bus}
 use Rattle.hour.specs.declared.records.Constraint.{Constraint}
 use Rattle.hour.specs.declared.records.Run.{Run}
 use Rattle.hour.specs.declared.book.Book.{Book}
 use Rattle.hour.proofs.Tables.{sum_by_put}
-use Rattle.saved_rows.specs.declared.row.BusRow.{BusRow}
 use Rattle.saved_rows.specs.declared.row.Row.{Row}
 use Rattle.saved_rows.specs.declared.row.Row.TheVariants as row
 use Rattle.saved_rows.specs.declared.stage.Stage.{Stage}
 use Rattle.saved_rows.specs.declared.stage.Stage.TheVariants as stage
 use Rattle.saved_rows.specs.Order.{to_bus, to_lambda, to_constraint, to_outage, to_run, to_end, eq_z, finished, blank_bus, in_order}
-use Rattle.saved_rows.specs.Entering.{enter, valued, unless, Given, bus_given, bus_put}
+use Rattle.saved_rows.specs.Entering.{enter, valued, unless, bus_given, bus_put}
 use Rattle.saved_rows.specs.Rows.{indexed, bus_numbers, bus_rows, lambda_rows, outage_rows, constraint_rows, run_row, rows, all_rows}
-use Rattle.saved_rows.specs.Running.{Place, place, begin, onward, run_rows, step_by}
+use Rattle.saved_rows.specs.Running.{Place, place, onward, run_rows, step_by}
 use Rattle.saved_rows.specs.Laws.{ReadsBack}
 use Rattle.saved_rows.proofs.Calls.{valued_is}
 use Rattle.saved_rows.proofs.Marks.{outages_more, words_same}

@@ -1,5 +1,5 @@
 -- The lines of a book are few enough, and their numbers have at most fifteen digits.
-use Rattle.std.proofs.Common.{◌≡◌, ℕ, zero, suc, ◌+◌, ◌*◌, ◌^◌, ◌<◌, ◌≤◌, Bool, true, false, cond, ◌&&◌, leb, List, [], ◌∷◌, ◌++◌, length, ℤ, pos, negsuc, Some, None, sum_by, Option, refl, mul-suc, arith}
+use Rattle.std.proofs.Common.{◌≡◌, ℕ, zero, suc, ◌+◌, ◌*◌, ◌^◌, ◌<◌, ◌≤◌, Bool, true, false, cond, ◌&&◌, leb, List, [], ◌∷◌, ◌++◌, length, ℤ, pos, negsuc, Some, None, Option, refl, mul-suc, arith}
 use Rattle.std.specs.List.{AllByRecursion as All}
 use Rattle.std.proofs.ByRecursion.{All-append}
 use Rattle.std.proofs.lemmas.List.{length-append}
@@ -8,15 +8,14 @@ use Rattle.std.proofs.lemmas.Bool.{and_parts, and_from, leb-true, le-leb}
 use Rattle.bus_set.specs.Sets.{member, four_words}
 use Rattle.hour.specs.Limits.{within, most_lambda, most_shadow_price, most_adder}
 use Rattle.hour.specs.Sound.{all_by, when_some, bus_sound, lambda_sound, constraint_sound, run_sound, seconds_of, total_seconds}
-use Rattle.hour.specs.Hour.{Hour, entries}
+use Rattle.hour.specs.Hour.{entries}
 use Rattle.hour.specs.declared.records.Bus.{Bus}
 use Rattle.hour.specs.declared.records.Constraint.{Constraint}
 use Rattle.hour.specs.declared.records.Run.{Run}
-use Rattle.hour.specs.declared.book.Book.{Book}
 use Rattle.saved_rows.specs.declared.row.Row.{Row}
 use Rattle.saved_rows.specs.declared.row.Row.TheVariants as row
 use Rattle.saved_rows.specs.Order.{blank_bus}
-use Rattle.saved_rows.specs.Rows.{indexed, bus_numbers, bus_rows, lambda_rows, outage_rows, constraint_rows, run_row, rows, all_rows}
+use Rattle.saved_rows.specs.Rows.{indexed, bus_numbers, bus_rows, lambda_rows, outage_rows, constraint_rows, run_row, rows}
 use Rattle.saved_rows.specs.Laws.{FewDigits, Writable, AllWritable, most_rows}
 
 -- lines that can be written, and at most so many

@@ -1,5 +1,5 @@
 -- What a line makes of an hour, or why it is refused: its values in the order of its fields, then the hour.
-use Rattle.std.specs.Prelude.{◌≡◌, ℕ, ◌-◌, Bool, true, false, cond, not, ℤ, pos, Some, None, Ok, Err, Option, Result, MatchResult, int_le}
+use Rattle.std.specs.Prelude.{◌≡◌, ℕ, ◌-◌, Bool, true, false, cond, not, pos, Some, None, Ok, Err, Option, Result, MatchResult, int_le}
 use Rattle.refusals.specs.declared.Refusal.{Refusal}
 use Rattle.refusals.specs.declared.Refusal.TheVariants.{BusOutside, HubBusOutside, ZoneOutside, HubBusFull, LoadOutside, ConstraintOutside, ShadowPriceOutside, NotPosted, LambdaOutside, RunOutside, SecondsOutside, AdderOutside}
 use Rattle.faults.specs.declared.Spot.{Spot}

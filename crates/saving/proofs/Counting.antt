@@ -1,5 +1,5 @@
 -- How many lines an hour has.
-use Rattle.std.proofs.Common.{ℕ, zero, suc, ◌+◌, ◌*◌, ◌≤◌, Bool, true, false, cond, List, [], ◌∷◌, ◌++◌, length, take, ℤ, pos, Some, None, Option, mul-le-mul_left, mul-suc, arith}
+use Rattle.std.proofs.Common.{ℕ, zero, suc, ◌+◌, ◌*◌, ◌≤◌, Bool, true, false, cond, List, [], ◌∷◌, length, take, ℤ, pos, Some, None, Option, mul-le-mul_left, mul-suc, arith}
 use Rattle.std.proofs.lemmas.List.{length-append}
 use Rattle.bus_set.specs.Sets.{member}
 use Rattle.hour.specs.declared.records.Bus.{Bus}

@@ -1,8 +1,7 @@
 -- One line added to a draft after another.
-use Rattle.std.proofs.Common.{◌≡◌, ℕ, zero, suc, ◌+◌, ◌*◌, ◌<◌, ◌≤◌, Bool, cond, List, [], ◌∷◌, ◌++◌, length, get_or, take, pos, sym, refl, ap, ◌∙◌, subst, append_assoc, append-nil, zero-add, add-one, arith}
+use Rattle.std.proofs.Common.{◌≡◌, ℕ, ◌+◌, ◌<◌, ◌≤◌, Bool, cond, List, [], ◌∷◌, ◌++◌, length, get_or, take, pos, sym, refl, ap, ◌∙◌, subst, append_assoc, zero-add, add-one, arith}
 use Rattle.std.specs.List.{flat_map}
 use Rattle.std.proofs.lemmas.List.{length-append, take_all}
-use Rattle.page.specs.Pages.{written}
 use Rattle.page.specs.declared.pages.Page.{Page}
 use Rattle.page.proofs.Pushing.{nothing_more}
 use Rattle.saved_rows.specs.declared.row.Row.{Row}

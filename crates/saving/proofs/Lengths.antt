@@ -1,6 +1,5 @@
 -- Any saved text fits its page.
 use Rattle.std.proofs.Common.{◌≡◌, ℕ, zero, suc, ◌+◌, ◌*◌, ◌^◌, ◌<◌, ◌≤◌, Bool, true, false, cond, ◌&&◌, leb, List, [], ◌∷◌, ◌++◌, length, ℤ, pos, negsuc, Some, None, Option, refl, mul-suc, arith}
-use lib.Signed.{mag}
 use Rattle.std.specs.List.{flat_map}
 use Rattle.std.specs.Fmt.{signed_decimal}
 use Rattle.std.proofs.lemmas.Fmt.{length-decimal-le, length_signed_le}
@@ -18,7 +17,7 @@ use Rattle.hour.specs.declared.book.Book.{Book}
 use Rattle.saved_rows.specs.declared.row.Row.{Row}
 use Rattle.saved_rows.specs.declared.row.Row.TheVariants as row
 use Rattle.saved_rows.specs.Order.{blank_bus}
-use Rattle.saved_rows.specs.Rows.{indexed, bus_numbers, bus_rows, lambda_rows, outage_rows, constraint_rows, run_row, rows, all_rows}
+use Rattle.saved_rows.specs.Rows.{indexed, bus_numbers, bus_rows, lambda_rows, outage_rows, constraint_rows, run_row, rows}
 use Rattle.saved_rows.proofs.Writable.{all_writable}
 use Rattle.saved.specs.Texts.{status_text, line_text, saved_text}
 use Rattle.saving.specs.Laws.{Fits}

@@ -1,5 +1,5 @@
 -- Lines added to a draft.
-use Rattle.std.specs.Prelude.{◌≡◌, ℕ, ◌+◌, List, length}
+use Rattle.std.specs.Prelude.{◌≡◌, ◌+◌, List, length}
 use Rattle.std.specs.List.{flat_map}
 use Rattle.saved_rows.specs.declared.row.Row.{Row}
 use Rattle.saving.specs.declared.drafts.Draft.{Draft}

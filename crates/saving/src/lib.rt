@@ -1,4 +1,6 @@
 // Saving an hour: its saved text, written to a caller's buffer.
+#![tactic(auto)]
+
 ghost use Rattle.hour.specs.Hour.{entries};
 ghost use Rattle.page.specs.Copies.{Copies};
 ghost use Rattle.saving.specs.Laws.{Fits, Legible};

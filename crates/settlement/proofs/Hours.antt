@@ -1,12 +1,12 @@
 -- Runs, one after another, and books of one hour.
-use Rattle.std.proofs.Common.{◌≡◌, ℕ, ◌+◌, ◌<◌, Bool, true, not, List, [], ◌∷◌, ◌++◌, length, get_or, take, ℤ, ◌-ℤ◌, Some, None, Ok, Err, Option, Result, sym, refl, ap, ◌∙◌}
+use Rattle.std.proofs.Common.{◌≡◌, ℕ, ◌+◌, ◌<◌, Bool, true, not, List, [], ◌∷◌, ◌++◌, length, get_or, take, ℤ, ◌-ℤ◌, Some, None, Ok, Option, Result, refl, ap, ◌∙◌}
 use Rattle.std.proofs.lemmas.List.{take_more}
 use Rattle.faults.specs.declared.Fault.{Fault}
 use Rattle.refusals.specs.declared.Refusal.TheVariants.{LambdaOutside}
 use Rattle.hour.specs.Limits.{within, most_lambda}
 use Rattle.hour.specs.Hour.{Hour, entries, bus_at, run_at}
 use Rattle.hour.specs.Live.{base_live, is_out}
-use Rattle.hour.specs.Steps.{Outcome, refuse_if}
+use Rattle.hour.specs.Steps.{refuse_if}
 use Rattle.hour.specs.Replays.{left}
 use Rattle.hour.specs.declared.book.Book.{Book}
 use Rattle.hour.specs.declared.records.Market.{Market}

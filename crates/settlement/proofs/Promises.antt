@@ -1,5 +1,5 @@
 -- The promise over runs.
-use Rattle.std.proofs.Common.{◌≡◌, ℕ, ◌<◌, ◌≤◌, List, [], ◌∷◌, ◌++◌, length, take, ℤ, Ok, Option, sym, refl, ap, ◌∙◌, subst, ⊎_elim, arith}
+use Rattle.std.proofs.Common.{◌≡◌, ℕ, ◌<◌, ◌≤◌, List, [], ◌∷◌, ◌++◌, length, take, ℤ, Ok, sym, ap, ◌∙◌, subst, ⊎_elim, arith}
 use Rattle.std.proofs.lemmas.List.{take_all}
 use Rattle.std.proofs.lemmas.Bool.{cases_lt}
 use Rattle.hour.specs.Hour.{Hour, entries, fresh}
@@ -7,30 +7,28 @@ use Rattle.hour.specs.declared.book.Book.{Book}
 use Rattle.hour.specs.declared.records.Market.{Market}
 use Rattle.hour.specs.declared.records.Market.TheVariants.{DayAhead, RealTime}
 use Rattle.posting.specs.Grids.{Grid}
-use Rattle.posting.specs.Meanings.{reference_grid}
 use Rattle.weighting.specs.Meanings.{Meaning}
 use Rattle.weighting.specs.Views.{View}
-use Rattle.weighting.specs.declared.hubs.Hub.{Hub}
 use Rattle.weighting.specs.declared.points.Kind.{Kind}
 use Rattle.weighting.specs.declared.points.Kind.TheVariants as kind
 use Rattle.weighting.specs.declared.points.Point.{Point}
 use Rattle.day_ahead.specs.Prices.{base_case}
-use Rattle.day_ahead.specs.Moves.{bus_congestion, lowered, PostedMoved}
+use Rattle.day_ahead.specs.Moves.{bus_congestion, PostedMoved}
 use Rattle.day_ahead.proofs.Living.{decided}
 use Rattle.day_ahead.proofs.Moving.{price_stays}
 use Rattle.real_time.specs.Weights.{base_view}
 use Rattle.real_time.proofs.Laws.{same_facts}
 use Rattle.pricing.specs.Origins.{Priced, own_price}
-use Rattle.pricing.specs.Taken.{TakenByKind, OfTaken}
+use Rattle.pricing.specs.Taken.{TakenByKind}
 use Rattle.pricing.proofs.Standing.{point_stands}
 use Rattle.pricing.proofs.Deciding.{live_facts_decide, reference_stays, same_facts_decide}
 use Rattle.saved.specs.Texts.{saved_text}
 use Rattle.saved.specs.Reading.{reading}
 use Rattle.settlement.specs.declared.deeds.Deed.{Deed}
-use Rattle.settlement.specs.Runs.{after_deed, after_all, hour_of}
+use Rattle.settlement.specs.Runs.{after_all, hour_of}
 use Rattle.settlement.specs.Prices.{price_in, PointPriced, WeightingPriced}
 use Rattle.settlement.specs.Promise.{LeftBy, WeightingFacts, PointFacts, lowering, InRange, Weighed, Resumes, Promise}
-use Rattle.settlement.proofs.Hours.{after_append, resumes, Lowered, hour_lowered, same_hour}
+use Rattle.settlement.proofs.Hours.{after_append, resumes, hour_lowered, same_hour}
 
 pub weightings : (market : Market) (m : Meaning) (book book' : Book) (p q : Grid) → WeightingFacts market m p q book book' → price_in market m p book ≡ price_in market m q book'
 weightings DayAhead m book book' p q facts = decided m p q book book' facts

@@ -1,7 +1,7 @@
 -- The promise over runs: a price hangs on its hour's live facts alone, after any list of calls, saves and resumes, for every weighting and every posting.
 use Rattle.std.specs.Prelude.{◌≡◌, ℕ, ◌<◌, true, List, [], ◌∷◌, ◌++◌, take, ℤ, ◌-ℤ◌, Some, None, Ok, Option}
 use Rattle.hour.specs.Limits.{within, most_lambda}
-use Rattle.hour.specs.Hour.{Hour, entries, fresh}
+use Rattle.hour.specs.Hour.{entries}
 use Rattle.hour.specs.declared.book.Book.{Book}
 use Rattle.hour.specs.declared.calls.Call.TheVariants.{Lambda}
 use Rattle.hour.specs.declared.records.Market.{Market}
@@ -21,7 +21,7 @@ use Rattle.saved.specs.Texts.{saved_text}
 use Rattle.saved.specs.Reading.{reading}
 use Rattle.settlement.specs.declared.deeds.Deed.{Deed}
 use Rattle.settlement.specs.declared.deeds.Deed.TheVariants as deed
-use Rattle.settlement.specs.Runs.{after_deed, hour_of}
+use Rattle.settlement.specs.Runs.{hour_of}
 use Rattle.settlement.specs.Prices.{price_in, PointPriced}
 
 -- a book that a run leaves

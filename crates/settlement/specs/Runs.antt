@@ -1,5 +1,5 @@
 -- A run: the deeds done to a fresh book, one after another, and the hour that they leave.
-use Rattle.std.specs.Prelude.{ℕ, List, [], ◌∷◌, Ok, Err, Result}
+use Rattle.std.specs.Prelude.{List, [], ◌∷◌, Ok, Err, Result}
 use Rattle.faults.specs.declared.Fault.{Fault}
 use Rattle.hour.specs.Hour.{Hour, fresh}
 use Rattle.hour.specs.Replays.{after}

@@ -1,5 +1,5 @@
 -- Outage marks and weights.
-use Rattle.std.proofs.Common.{◌≡◌, ℕ, ◌<◌, Bool, true, false, cond, not, ◌&&◌, eqb, ℤ, pos, Some, None, Option, sym, refl, ap, ◌∙◌, ap₂, ⊎_elim, arith}
+use Rattle.std.proofs.Common.{◌≡◌, ℕ, ◌<◌, Bool, true, false, not, ◌&&◌, eqb, ℤ, pos, Some, None, Option, sym, refl, ap, ◌∙◌, ap₂, ⊎_elim, arith}
 use Rattle.std.proofs.lemmas.Bool.{cases_Bool, both_ways, ne_eqb, cond-false}
 use Rattle.bus_set.specs.Sets.{member}
 use Rattle.hour.specs.Hour.{Hour, entries, bus_at, constraint_at, out_of}
@@ -13,9 +13,9 @@ use Rattle.hour.specs.declared.calls.Call.TheVariants.{Outage}
 use Rattle.hour.specs.declared.book.Book.{Book}
 use Rattle.hour.proofs.Laws.{laws}
 use Rattle.weighting.specs.BookLimits.{load_in}
-use Rattle.weighting.specs.Views.{View, Alike, view_of}
+use Rattle.weighting.specs.Views.{Alike, view_of}
 use Rattle.weighting.specs.Meanings.{Meaning}
-use Rattle.weighting.specs.Marks.{weight_under, MarkLaws}
+use Rattle.weighting.specs.Marks.{MarkLaws}
 
 never_some : (z : ℤ) → None ≡ Some z → ⊥
 never_some z e = let x : ◌≡◌ {A = ℕ} 0 1 = cc in omega arith

@@ -5,7 +5,7 @@ use Rattle.std.proofs.lemmas.Bool.{cases_eq, cases_lt, eq-eqb, ne_eqb, lt-ltb, l
 use Rattle.hour.specs.Limits.{last_hub_bus, last_zone, most_load}
 use Rattle.hour.specs.Sound.{bus_sound}
 use Rattle.hour.specs.declared.records.Bus.{Bus}
-use Rattle.bus_set.specs.Sets.{member, SetOf, marked}
+use Rattle.bus_set.specs.Sets.{SetOf, marked}
 use Rattle.bus_set.proofs.Sets.{marked_none, marked_turn, marked_all}
 
 -- rows that hold the buses below b, each in the row that `of` gives it

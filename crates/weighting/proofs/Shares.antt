@@ -1,12 +1,11 @@
 -- The weights of a hub in the words of the desk.
-use Rattle.std.proofs.Common.{◌≡◌, ℕ, ◌*◌, ◌/◌, ◌<◌, ◌≤◌, Bool, true, false, cond, ◌&&◌, eqb, ltb, List, get_or, sym, refl, ap, ◌∙◌, ⊎_elim, arith}
+use Rattle.std.proofs.Common.{◌≡◌, ℕ, ◌*◌, ◌/◌, ◌<◌, ◌≤◌, Bool, true, cond, ◌&&◌, eqb, ltb, List, get_or, sym, refl, ap, ◌∙◌, ⊎_elim}
 use Rattle.std.proofs.lemmas.Bool.{cases_eq, and_from, cond-true, cond-false, eq-eqb, ne_eqb, lt-ltb}
 use Rattle.bus_set.specs.Sets.{member, SetOf, count_below}
 use Rattle.bus_set.proofs.Counts.{count_same, count_some}
-use Rattle.weighting.specs.Sums.{sum_below}
 use Rattle.weighting.specs.SumLaws.{sum_same}
 use Rattle.weighting.specs.Views.{View}
-use Rattle.weighting.specs.Hubs.{unit, of_hub, live_of, hub_weight, live_hub_buses}
+use Rattle.weighting.specs.Hubs.{unit, of_hub, live_of, hub_weight}
 use Rattle.weighting.specs.HubLaws.{of_hub_range, few_live, divides, part, elsewhere, column, hub_sum}
 use Rattle.weighting.specs.Shares.{HubShares}
 use Rattle.weighting.specs.declared.hubs.Hub.{Hub}

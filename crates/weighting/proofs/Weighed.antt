@@ -1,11 +1,10 @@
 -- What a point's buses weigh in a case that someone asks about.
-use Rattle.std.proofs.Common.{◌≡◌, ℕ, ◌<◌, List, Ok, Err, Option, Result, sym, refl, ◌∙◌}
+use Rattle.std.proofs.Common.{◌≡◌, ℕ, List, Ok, Err, Option, Result, sym, refl, ◌∙◌}
 use Rattle.refusals.specs.declared.Refusal.{Refusal}
 use Rattle.bus_set.specs.Sets.{member}
 use Rattle.hour.specs.Hour.{entries}
 use Rattle.hour.specs.declared.records.Market.TheVariants.{DayAhead}
 use Rattle.hour.specs.declared.book.Book.{Book}
-use Rattle.weighting.specs.Sums.{sum_below}
 use Rattle.weighting.specs.SumLaws.{sum_same}
 use Rattle.weighting.specs.Views.{View, Alike, view_of}
 use Rattle.weighting.specs.Meanings.{Meaning, WeightsOf}

@@ -1,6 +1,6 @@
 -- Weightings by the bus's own hub bus, load zone and load: one argument gives all of them the laws.
 use Rattle.std.specs.Prelude.{◌≡◌, ℕ, ◌<◌, ◌≤◌, Bool, true, false, cond, refl}
-use Rattle.std.proofs.Common.{sym, ap, ap₂, ◌∙◌, ⊎_elim, arith}
+use Rattle.std.proofs.Common.{sym, ◌∙◌, ⊎_elim, arith}
 use Rattle.std.proofs.lemmas.Bool.{cases_Bool, cond-true, cond-false}
 use Rattle.weighting.specs.Sums.{sum_below}
 use Rattle.weighting.specs.SumLaws.{sum_most}

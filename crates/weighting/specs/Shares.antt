@@ -1,5 +1,5 @@
 -- What the weights of a hub, a load zone and a tie are, in the words of the desk.
-use Rattle.std.specs.Prelude.{◌≡◌, ℕ, ◌*◌, ◌<◌, Bool, true, false, cond, ◌&&◌, List, ◌==◌, ◌≢◌, slice_index}
+use Rattle.std.specs.Prelude.{◌≡◌, ℕ, ◌*◌, ◌<◌, true, false, cond, ◌&&◌, List, ◌==◌, ◌≢◌, slice_index}
 use Rattle.weighting.specs.Sums.{sum_below}
 use Rattle.weighting.specs.Views.{View}
 use Rattle.weighting.specs.Hubs.{unit, of_hub, live_of, live_hub_buses}

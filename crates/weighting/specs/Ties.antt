@@ -1,5 +1,5 @@
 -- The one bus of a tie weighs 1 when live.
-use Rattle.std.specs.Prelude.{◌≡◌, ℕ, ◌≤◌, Bool, true, false, cond, ◌==◌, refl}
+use Rattle.std.specs.Prelude.{ℕ, ◌≤◌, Bool, true, false, cond, ◌==◌, refl}
 use Rattle.std.proofs.Common.{arith}
 use Rattle.weighting.specs.Views.{View}
 use Rattle.weighting.specs.Meanings.{Meaning}

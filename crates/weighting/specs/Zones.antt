@@ -1,5 +1,5 @@
 -- A live bus of a load zone weighs its load.
-use Rattle.std.specs.Prelude.{◌≡◌, ℕ, ◌≤◌, Bool, true, false, cond, ◌==◌}
+use Rattle.std.specs.Prelude.{ℕ, ◌≤◌, Bool, true, false, cond, ◌==◌}
 use Rattle.std.proofs.Common.{ap₂, arith}
 use Rattle.weighting.specs.Views.{View}
 use Rattle.weighting.specs.Meanings.{Meaning}

@@ -1,4 +1,6 @@
 // What each bus weighs in a case: the interface with its laws, and the weightings of hubs, load zones and ties.
+#![tactic(auto)]
+
 pub mod cases;
 mod each;
 pub mod hubs;

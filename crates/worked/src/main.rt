@@ -1,4 +1,6 @@
 // Hours worked through by hand, priced and compared: each row has the hour, the point, and cents with origin or R with a refusal.
+#![tactic(auto)]
+
 use hour::book::Book;
 use hour::records::Market as HourMarket;
 use posting::Posting;

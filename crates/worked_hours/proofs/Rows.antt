@@ -1,5 +1,5 @@
 -- The rows, by computation.
-use Rattle.std.proofs.Common.{◌≡◌, ℕ, ◌≤◌, List, ℤ, pos, neg_ℤ, Ok, Result, refl, ◌∙◌, arith}
+use Rattle.std.proofs.Common.{◌≡◌, List, ℤ, pos, neg_ℤ, Ok, Result, refl, ◌∙◌, arith}
 use Rattle.refusals.specs.declared.Refusal.{Refusal}
 use Rattle.bus_set.specs.Sets.{bit, count_below}
 use Rattle.numbers.specs.Rounding.{half_up}

@@ -1,5 +1,5 @@
 -- The worked hours, each as the calls that make it of a fresh book.
-use Rattle.std.specs.Prelude.{ℕ, true, false, List, [], ◌∷◌, ◌++◌, ℤ, pos, neg_ℤ}
+use Rattle.std.specs.Prelude.{ℕ, true, false, List, [], ◌∷◌, ◌++◌, ℤ, pos}
 use Rattle.hour.specs.declared.records.Market.TheVariants.{DayAhead, RealTime}
 use Rattle.hour.specs.declared.calls.Call.{Call}
 use Rattle.hour.specs.declared.calls.Call.TheVariants.{Place, Status, Load, Lambda, Post, Outage, EnterRun}

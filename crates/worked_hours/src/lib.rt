@@ -1,4 +1,6 @@
 // Hours worked through by hand, as one assertion about the rules of prices, and the first of them worked by the calls.
+#![tactic(auto)]
+
 ghost use Rattle.std.specs.Prelude.{◌≡◌, true, pos, Ok};
 ghost use Rattle.hour.specs.Hour.{entries, fresh};
 ghost use Rattle.hour.specs.Replays.{worked};

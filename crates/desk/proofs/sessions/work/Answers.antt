@@ -1,7 +1,5 @@
-use Rattle.std.proofs.Common.{◌≡◌, Option, Result, sym, ap, ◌∙◌, rules}
+use Rattle.std.proofs.Common.{ap, ◌∙◌}
 use Rattle.hour.specs.Hour.{entries}
-use Rattle.script.specs.declared.commands.Command.{Command}
-use Rattle.script.specs.declared.commands.NotACall.{NotACall}
 use Rattle.desk.specs.Sessions.{hour_after, reply_to}
 use Rattle.desk.proofs.sessions.work.Goals as goal
 

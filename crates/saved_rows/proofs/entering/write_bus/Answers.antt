@@ -1,6 +1,5 @@
-use Rattle.std.proofs.Common.{◌≡◌, Ok, Err, rules}
+use Rattle.std.proofs.Common.{rules}
 use Rattle.hour.specs.Hour.{entries}
-use Rattle.saved_rows.specs.Entering.{bus_put, bus_given}
 use Rattle.saved_rows.proofs.Calls.{full, written}
 use Rattle.saved_rows.proofs.entering.write_bus.Goals as goal
 

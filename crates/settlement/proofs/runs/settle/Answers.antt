@@ -9,7 +9,7 @@ use Rattle.settlement.specs.declared.deeds.Deed.{Deed}
 use Rattle.settlement.specs.declared.deeds.Deed.TheVariants as deed
 use Rattle.settlement.specs.declared.deeds.Answer.{Answer}
 use Rattle.settlement.specs.Runs.{after_deed, hour_of}
-use Rattle.settlement.specs.Prices.{Answers, AnswersAll}
+use Rattle.settlement.specs.Prices.{AnswersAll}
 use Rattle.settlement.proofs.Hours.{hour_more}
 use Rattle.settlement.proofs.Promises.{Back, promise}
 use Rattle.settlement.proofs.runs.settle.Goals as goal

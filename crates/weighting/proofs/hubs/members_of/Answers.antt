@@ -1,4 +1,4 @@
-use Rattle.std.proofs.Common.{◌≡◌, ℕ, ◌+◌, ◌<◌, true, List, [], length, get_or, set, sym, refl, ap, ◌∙◌, subst, arith, length-set}
+use Rattle.std.proofs.Common.{◌≡◌, ℕ, ◌+◌, ◌<◌, true, [], length, get_or, set, sym, refl, ap, ◌∙◌, subst, arith, length-set}
 use Rattle.bus_set.specs.Sets.{marked}
 use Rattle.hour.specs.Hour.{entries, bus_at}
 use Rattle.hour.specs.declared.records.Bus.{Bus}

@@ -1,4 +1,4 @@
-use Rattle.std.proofs.Common.{◌≡◌, ℕ, ◌<◌, sym, refl, ◌∙◌, rules}
+use Rattle.std.proofs.Common.{refl, ◌∙◌, rules}
 use Rattle.hour.specs.Hour.{entries}
 use Rattle.hour.specs.Live.{live_under}
 use Rattle.hour.specs.declared.records.Market.TheVariants.{DayAhead}

@@ -1,4 +1,4 @@
-use Rattle.std.proofs.Common.{◌≡◌, ◌<◌, ◌≤◌, length, None, sym, refl, arith}
+use Rattle.std.proofs.Common.{◌<◌, ◌≤◌, length, None, sym, refl, arith}
 use Rattle.std.proofs.lemmas.List.{get_or_past}
 use Rattle.hour.specs.Sound.{when_some, constraint_sound}
 use Rattle.hour.proofs.Tables.{all_by_get_d}

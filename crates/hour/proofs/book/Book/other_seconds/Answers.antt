@@ -1,4 +1,4 @@
-use Rattle.std.proofs.Common.{◌≡◌, ◌+◌, ◌<◌, ◌≤◌, length, None, arith}
+use Rattle.std.proofs.Common.{◌≡◌, ◌+◌, ◌<◌, length, None, arith}
 use Rattle.std.specs.List.{remove}
 use Rattle.hour.specs.Sound.{seconds_of, total_seconds}
 use Rattle.hour.proofs.Tables.{sum_by_removed}

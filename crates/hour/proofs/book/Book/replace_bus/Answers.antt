@@ -1,4 +1,4 @@
-use Rattle.std.proofs.Common.{◌≡◌, ℕ, refl, ◌∙◌, length-set}
+use Rattle.std.proofs.Common.{refl, ◌∙◌, length-set}
 use Rattle.std.proofs.lemmas.List.{get_or-set_other}
 use Rattle.hour.specs.Sound.{bus_sound}
 use Rattle.hour.specs.Hour.{no_bus}

@@ -1,7 +1,7 @@
-use Rattle.std.proofs.Common.{◌≡◌, ℕ, ◌+◌, ◌<◌, List, [], ◌∷◌, ◌++◌, length, get_or, drop, pos, vec_items, Result, sym, ap, ◌∙◌, ap₂, append_assoc, append-nil, arith, rules}
+use Rattle.std.proofs.Common.{◌≡◌, ◌+◌, List, [], ◌∷◌, ◌++◌, get_or, drop, pos, vec_items, Result, sym, ap, ◌∙◌, ap₂, append_assoc, append-nil, arith, rules}
 use Rattle.std.proofs.lemmas.List.{at_drop_more, at_drop_all}
 use Rattle.refusals.specs.declared.Refusal.{Refusal}
-use Rattle.hour.specs.Hour.{Hour, entries, fresh}
+use Rattle.hour.specs.Hour.{Hour, entries}
 use Rattle.hour.specs.Replays.{step, after, said, worked, answers}
 use Rattle.hour.specs.declared.calls.Call.{Call}
 use Rattle.hour.specs.declared.calls.Call.TheVariants.{Place}
