@@ -14,7 +14,7 @@ import sys
 TOKEN = r"[A-Za-z_\u00c0-\uffff0-9'\-]"
 WORD = re.compile(r"(?<![A-Za-z0-9_'\-])[A-Za-z][A-Za-z0-9_']*(?:-[A-Za-z0-9_']+)*(?![A-Za-z0-9_'])")
 DECL = re.compile(r"^(\s*)((?:(?:abbrev|unfoldable|record|data|pub|private|instance)\s+)*)([A-Za-z][A-Za-z0-9_'\-]*)((?:\s+[({][^:]*:.*?[)}])*)\s+:(?=\s)(.*)$")
-USE = re.compile(r"^(?:ghost )?(?:pub )?use (Rattle\.[^;{\s]+)(?:\.\{(.*)\})?(?: as (\S+?))?;?$")
+USE = re.compile(r"^(?:ghost )?(?:pub )?use ([\w]+\.[^;{\s]+)(?:\.\{(.*)\})?(?: as (\S+?))?;?$")
 
 
 def files():
@@ -103,6 +103,16 @@ def collect(own):
                 declared.setdefault(m.group(3), set()).add(path)
                 fields.add(m.group(3))
     return declared, fields, foreign, made
+
+
+def brought(text, own):
+    """The words that a file brings in from other libraries, which keep their spelling."""
+    words = set()
+    for line in text.splitlines():
+        use = USE.match(line)
+        if use and use.group(2) and use.group(1).split(".")[1] not in own:
+            words |= {w.strip().split(" as ")[0] for w in use.group(2).split(",")}
+    return words
 
 
 def plan(declared, fields, foreign, made):
@@ -196,13 +206,16 @@ def main():
         for old in sorted(names):
             print(f"{old} -> {names[old]}")
         return
+    every = names
     for path in files():
         text = read(path)
+        kept = brought(text, own)
+        names = {old: new for old, new in every.items() if old not in kept}
         new = antt(text, names, fields) if path.endswith(".antt") else rt(text, names, fields)
         if new != text:
             with open(path, "w", encoding="utf-8") as f:
                 f.write(new)
-    ticks = {old: new for old, new in names.items() if old in declared}
+    ticks = {old: new for old, new in every.items() if old in declared}
     for path in ["README.md"] + sorted(os.path.join("docs", n) for n in os.listdir("docs") if n.endswith(".md")):
         text = read(path)
         new = page(text, ticks)
