@@ -1,6 +1,6 @@
 -- Laws of posting texts, in the words of a desk that writes them.
 use Rattle.std.specs.Prelude.{◌≡◌, ℕ, ◌+◌, ◌<◌, ◌≤◌, ◌⊎◌, List, [], ◌∷◌, ◌++◌, length, ℤ, pos, Err, Result, MatchResult, ◌≢◌}
-use Rattle.std.specs.List.{AllByRecursion as All}
+use Rattle.std.specs.List.{AllByRecursion}
 use Rattle.faults.specs.declared.Fault.{Fault}
 use Rattle.faults.specs.declared.Why.TheVariants.{Short}
 use Rattle.faults.specs.Faults.{spot, fault}
@@ -14,7 +14,7 @@ use Rattle.posting_text.specs.Filling.{places}
 -- a text in order is a line for each of n entries, all of which may be posted
 pub record InOrder (text : List ℕ) (n : ℕ) : Type 0 where
   pub entries : List Entry
-  pub all_right : All Right entries
+  pub all_right : AllByRecursion Right entries
   pub text_is : text ≡ text_of entries
   pub count_is : n ≡ length entries
 
@@ -22,7 +22,7 @@ pub record InOrder (text : List ℕ) (n : ℕ) : Type 0 where
 pub record FirstFault (text : List ℕ) (f : Fault) : Type 0 where
   -- right lines stand before it
   pub before : List Entry
-  pub all_right : All Right before
+  pub all_right : AllByRecursion Right before
   pub rest : List ℕ
   pub text_is : text ≡ text_of before ++ rest
   pub line_is : f.line ≡ length before + 1
@@ -44,7 +44,7 @@ Whole text = (text ≡ []) ⊎ ((t : List ℕ) × (text ≡ t ++ (line_end ∷ [
 
 -- no line end among the bytes
 abbrev pub OneLine : List ℕ → Type 0
-OneLine line = All (λ b. b ≢ line_end) line
+OneLine line = AllByRecursion (λ b. b ≢ line_end) line
 
 -- no entry that may be posted is written so
 abbrev pub Wrong : List ℕ → Type 0

@@ -1,6 +1,6 @@
 // A posting text checked from its first line to its last.
 ghost use Rattle.std.specs.Prelude.{◌≡◌, List, length, Ok, MatchResult};
-ghost use Rattle.std.specs.List.{AllByRecursion as All};
+ghost use Rattle.std.specs.List.{AllByRecursion};
 ghost use Rattle.posting_text.specs.Texts.{checking};
 ghost use Rattle.posting_text.specs.Written.{Right, text_of};
 ghost use Rattle.posting_text.specs.Laws.{InOrder, FirstFault};
@@ -26,7 +26,7 @@ fn count_lines(text: &[u8]) -> Result<u64, Fault>
 pub fn check(text: &[u8]) -> Result<u64, Fault>
     ensures value { result ≡ checking text.now }
     ensures says { MatchResult result (InOrder text.now) (FirstFault text.now) }
-    ensures accepts { (es : List Entry) → All Right es → text.now ≡ text_of es → result ≡ Ok (length es) }
+    ensures accepts { (es : List Entry) → AllByRecursion Right es → text.now ≡ text_of es → result ≡ Ok (length es) }
 {
     count_lines(text)
 }

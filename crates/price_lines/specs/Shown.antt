@@ -1,6 +1,6 @@
 -- What price lines show: for each point that is listed, what the pricing call answers.
 use Rattle.std.specs.Prelude.{◌≡◌, ℕ, ◌<◌, ◌≤◌, ◌⊎◌, List, [], ◌∷◌, map, ℤ, pos, ◌<ℤ◌, Result}
-use Rattle.std.specs.List.{flat_map, ContainsAt as Has, AllByRecursion as All}
+use Rattle.std.specs.List.{flat_map, ContainsAt as Has, AllByRecursion}
 use Rattle.refusals.specs.declared.Refusal.{Refusal}
 use Rattle.hour.specs.Hour.{Hour, bus_at}
 use Rattle.weighting.specs.Hubs.{hub_number}
@@ -42,13 +42,13 @@ Before p q = (rank p.kind < rank q.kind) ⊎ ((p.kind ≡ q.kind) × (p.number <
 
 abbrev pub Ascending : List Entry → Type 0
 Ascending [] = Unit {0}
-Ascending (e ∷ es) = All (λ f. Before e.point f.point) es × Ascending es
+Ascending (e ∷ es) = AllByRecursion (λ f. Before e.point f.point) es × Ascending es
 
 -- the text is one line for each listed point and no other, in ascending order, each with what the pricing call answers for it
 pub record Shows (price : Meaning → Result ℤ Refusal) (h : Hour) (text : List ℕ) : Type 0 where
   pub lines : List Entry
   pub whole : text ≡ flat_map entry_line lines
-  pub answers : All (λ e. PricedAt price e.point e.answer) lines
-  pub listed : All (λ e. Listed h e.point.kind e.point.number) lines
+  pub answers : AllByRecursion (λ e. PricedAt price e.point e.answer) lines
+  pub listed : AllByRecursion (λ e. Listed h e.point.kind e.point.number) lines
   pub every : (p : Point) → Listed h p.kind p.number → Has (map (λ (e : Entry). e.point) lines) p
   pub ascending : Ascending lines

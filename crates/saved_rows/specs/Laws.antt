@@ -1,6 +1,6 @@
 -- Laws of saved lines: they and the books are one to one, they can be written, and a fault is the first.
 use Rattle.std.specs.Prelude.{◌≡◌, ℕ, suc, ◌+◌, ◌*◌, ◌^◌, ◌<◌, ◌≤◌, true, false, ◌⊎◌, List, [], ◌∷◌, ◌++◌, length, ℤ, pos, negsuc, Ok, Err, Result}
-use Rattle.std.specs.List.{AllByRecursion as All}
+use Rattle.std.specs.List.{AllByRecursion}
 use Rattle.faults.specs.declared.Spot.{Spot}
 use Rattle.faults.specs.declared.Fault.{Fault}
 use Rattle.faults.specs.Faults.{fault}
@@ -40,7 +40,7 @@ most_rows = 256 + 1 + 32 * 257 + 16
 
 -- the lines of a book are few enough, and can be written
 abbrev pub AllWritable : Type 0
-AllWritable = (book : Book) → (length (rows (entries book)) ≤ most_rows) × All Writable (all_rows (entries book))
+AllWritable = (book : Book) → (length (rows (entries book)) ≤ most_rows) × AllByRecursion Writable (all_rows (entries book))
 
 -- the place that lines lead to where each of them is taken, n lines before the first
 abbrev pub reached : Place → ℕ → List Row → Result Place Spot

@@ -2,7 +2,7 @@
 use Rattle.std.specs.Prelude.{ℕ, cond, List, [], ◌∷◌, ◌++◌, ℤ, codes, FitsSigned}
 use Rattle.std.specs.Int.{w64}
 use Rattle.std.specs.Fmt.{signed_decimal}
-use Rattle.std.specs.List.{AllByRecursion as All}
+use Rattle.std.specs.List.{AllByRecursion}
 use Rattle.hour.specs.declared.calls.Call.{Call}
 use Rattle.hour.specs.declared.calls.Call.TheVariants.{Place, Status, Load, Lambda, Post, Strike, Outage, EnterRun, DropRun}
 use Rattle.hour.specs.declared.records.Market.{Market}
@@ -45,4 +45,4 @@ numbers (DropRun run) = run ∷ []
 
 -- each number of the call is one of 64 bits, as it is in every call that code holds
 abbrev pub Fits64 : Call → Type 0
-Fits64 c = All (FitsSigned w64) (numbers c)
+Fits64 c = AllByRecursion (FitsSigned w64) (numbers c)
