@@ -22,7 +22,7 @@ refuse_if false e next = next
 abbrev pub place : ℕ → ℕ → ℕ
 place bus column = column * buses + bus
 
--- the table of a desk that is opened
+-- a table with no number posted yet
 abbrev pub no_factors : List ℤ
 no_factors = replicate 8192 (pos 0)
 

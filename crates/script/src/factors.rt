@@ -1,4 +1,4 @@
-// What a line says of the table of posted numbers. Whether the table has such a place is looked at when it is written.
+// A number for the table of posted numbers, as a desk is told it. Whether the table has such a place is looked at when it is written.
 
 // The number of a bus in a column: a shift factor in millionths under a constraint, or a price in cents in a run.
 #[derive(Clone, Copy)]
