@@ -9,7 +9,8 @@ use Rattle.posting.specs.Limits.{buses, most_table_number}
 use Rattle.posting.specs.Meanings.{table_grid}
 use Rattle.posting.proofs.TableLaws.{table_laws}
 use Rattle.hour.proofs.Tables.{up_to_is, up_to_low}
-use Rattle.hour.specs.Limits.{up_to, within, last_bus, last_constraint}
+use Rattle.bounds.specs.Bounds.{up_to, within}
+use Rattle.hour.specs.Limits.{last_bus, last_constraint}
 use Rattle.script.specs.declared.factors.Factor.{Factor}
 use Rattle.desk.specs.Factors.{given, refuse_if, place, factored, table_after, answered}
 use Rattle.desk.specs.FactorLaws.{OnlyThere, Reads}

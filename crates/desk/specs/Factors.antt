@@ -3,7 +3,8 @@ use Rattle.std.specs.Prelude.{ℕ, ◌+◌, ◌*◌, Bool, true, false, not, Lis
 use Rattle.refusals.specs.declared.Refusal.{Refusal}
 use Rattle.refusals.specs.declared.Refusal.TheVariants.{BusOutside, ConstraintOutside, PostedOutside}
 use Rattle.posting.specs.Limits.{buses, most_table_number}
-use Rattle.hour.specs.Limits.{up_to, within, last_bus, last_constraint}
+use Rattle.bounds.specs.Bounds.{up_to, within}
+use Rattle.hour.specs.Limits.{last_bus, last_constraint}
 use Rattle.script.specs.declared.factors.Factor.{Factor}
 
 abbrev pub Outcome : Type 0

@@ -3,7 +3,8 @@ use Rattle.std.proofs.Common.{◌≡◌, ℕ, true, false, List, get_or, set, �
 use Rattle.std.proofs.lemmas.List.{get_or-set_other, set_comm}
 use Rattle.std.proofs.lemmas.Bool.{both_ways}
 use Rattle.refusals.specs.declared.Refusal.TheVariants.{BusOutside, HubBusOutside, ZoneOutside, HubBusFull}
-use Rattle.hour.specs.Limits.{up_to, last_bus, last_hub_bus, last_zone}
+use Rattle.bounds.specs.Bounds.{up_to}
+use Rattle.hour.specs.Limits.{last_bus, last_hub_bus, last_zone}
 use Rattle.hour.specs.Hour.{Hour, bus_at, with_bus, no_bus}
 use Rattle.hour.specs.Steps.{Outcome, given, refuse_if, is_full, placed_in}
 use Rattle.hour.specs.Replays.{after, left}

@@ -2,7 +2,8 @@
 use Rattle.std.proofs.Common.{◌≡◌, ℕ, ◌-◌, not, ℤ, pos, Some, None, Option, sym, refl, ap, ◌∙◌}
 use lib.Signed.{le_z}
 use Rattle.std.proofs.lemmas.List.{get_or-set_other}
-use Rattle.hour.specs.Limits.{up_to, within, last_bus, last_hub_bus, last_zone, most_load, last_constraint, most_shadow_price, most_lambda, last_run, most_adder, most_seconds}
+use Rattle.bounds.specs.Bounds.{up_to, within}
+use Rattle.hour.specs.Limits.{last_bus, last_hub_bus, last_zone, most_load, last_constraint, most_shadow_price, most_lambda, last_run, most_adder, most_seconds}
 use Rattle.hour.specs.Hour.{Hour, bus_at, with_bus, constraint_at, with_constraint, run_at, with_run, no_bus}
 use Rattle.hour.specs.Steps.{is_full, other_seconds}
 use Rattle.hour.specs.Replays.{after}

@@ -5,7 +5,8 @@ use Rattle.std.proofs.lemmas.List.{get_or-set_same, get_or-set_other, get_or_pas
 use Rattle.std.proofs.lemmas.Bool.{cases_eq, cases_lt, eq-eqb, ne_eqb}
 use Rattle.bus_set.specs.Sets.{member, marked, four_words}
 use Rattle.bus_set.proofs.Sets.{no_members, member_with, words_length}
-use Rattle.hour.specs.Limits.{up_to, within, last_bus, last_constraint, most_shadow_price, last_run, most_adder, most_seconds}
+use Rattle.bounds.specs.Bounds.{up_to, within}
+use Rattle.hour.specs.Limits.{last_bus, last_constraint, most_shadow_price, last_run, most_adder, most_seconds}
 use Rattle.hour.specs.Sound.{when_some, constraint_sound, total_seconds, seconds_of}
 use Rattle.hour.specs.Hour.{Hour, entries, constraint_at, out_of}
 use Rattle.hour.specs.Steps.{other_seconds}

@@ -7,7 +7,7 @@ use Rattle.std.proofs.lemmas.Bool.Decides.{nat_tests}
 use Rattle.std.proofs.lemmas.List.Sums.{sum_by-append, sum_by-cons, sum_by-set}
 use Rattle.std.proofs.lemmas.List.{set_split, set-get_or}
 use Rattle.hour.specs.Sound.{all_by, when_some, constraint_sound, in_hub_bus, hub_bus_size, FewPerHubBus, bus_sound, run_sound}
-use Rattle.hour.specs.Limits.{up_to, within}
+use Rattle.bounds.specs.Bounds.{up_to, within}
 use Rattle.hour.specs.Hour.{Hour, out_of}
 use Rattle.hour.specs.Steps.{is_full, other_buses, placed_in, with_status, with_load}
 use Rattle.hour.specs.declared.records.Market.{Market}

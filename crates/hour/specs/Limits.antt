@@ -1,5 +1,5 @@
 -- The limits of an hour's numbers.
-use Rattle.std.specs.Prelude.{ℕ, Bool, cond, ℤ, pos, negsuc, Some, None, Option, nat_le, unsigned_abs}
+use Rattle.std.specs.Prelude.{ℕ}
 
 abbrev pub last_bus : ℕ
 last_bus = 255
@@ -39,12 +39,3 @@ most_seconds = 900
 -- the buses of one hub bus, live or dead
 abbrev pub most_buses : ℕ
 most_buses = 8
-
--- the number, where it is 0 to n
-abbrev pub up_to : ℤ → ℕ → Option ℕ
-up_to (pos k) n = cond (nat_le k n) (Some k) None
-up_to (negsuc k) n = None
-
--- whether a number is at most n away from 0
-abbrev pub within : ℤ → ℕ → Bool
-within z n = nat_le (unsigned_abs z) n

@@ -1,7 +1,8 @@
 -- What holds of the entries of every book: the invariant of its type.
 use Rattle.std.specs.Prelude.{ℕ, ◌<◌, ◌≤◌, Bool, true, ◌&&◌, List, [], ◌∷◌, ℤ, Some, None, sum_by, count_by, Option, ◌==◌, nat_le}
 use Rattle.bus_set.specs.Sets.{four_words}
-use Rattle.hour.specs.Limits.{within, last_hub_bus, last_zone, most_load, most_lambda, most_shadow_price, most_adder, most_buses}
+use Rattle.bounds.specs.Bounds.{within}
+use Rattle.hour.specs.Limits.{last_hub_bus, last_zone, most_load, most_lambda, most_shadow_price, most_adder, most_buses}
 use Rattle.hour.specs.declared.records.Bus.{Bus}
 use Rattle.hour.specs.declared.records.Constraint.{Constraint}
 use Rattle.hour.specs.declared.records.Run.{Run}

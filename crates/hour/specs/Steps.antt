@@ -5,7 +5,8 @@ use Rattle.refusals.specs.Numbers.{number}
 use Rattle.refusals.specs.declared.Refusal.{Refusal}
 use Rattle.refusals.specs.declared.Refusal.TheVariants.{BusOutside, HubBusOutside, ZoneOutside, HubBusFull, LoadOutside, ConstraintOutside, ShadowPriceOutside, NotPosted, LambdaOutside, RunOutside, SecondsOutside, AdderOutside, NotEntered}
 use Rattle.bus_set.specs.Sets.{marked}
-use Rattle.hour.specs.Limits.{up_to, within, last_bus, last_hub_bus, last_zone, most_load, last_constraint, most_shadow_price, most_lambda, last_run, most_adder, most_seconds, most_buses}
+use Rattle.bounds.specs.Bounds.{up_to, within}
+use Rattle.hour.specs.Limits.{last_bus, last_hub_bus, last_zone, most_load, last_constraint, most_shadow_price, most_lambda, last_run, most_adder, most_seconds, most_buses}
 use Rattle.hour.specs.Sound.{hub_bus_size, total_seconds}
 use Rattle.hour.specs.Hour.{Hour, bus_at, with_bus, constraint_at, with_constraint, out_of, run_at, with_run}
 use Rattle.hour.specs.declared.records.Bus.{Bus}

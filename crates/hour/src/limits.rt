@@ -1,8 +1,4 @@
-// The limits of an hour's numbers, and the checks of arguments against them.
-ghost use Rattle.std.specs.Prelude.{◌≡◌, ℕ, ◌≤◌, Some, None, MatchResult};
-ghost use Rattle.hour.specs.Limits.{up_to, within};
-
-use refusals::Refusal;
+// The limits of an hour's numbers.
 
 pub const LAST_BUS: u16 = 255;
 
@@ -25,21 +21,3 @@ pub const MOST_ADDER: u64 = 1_000_000;
 pub const MOST_SECONDS: u16 = 900;
 // the buses of one hub bus, live or dead
 pub const MOST_BUSES: usize = 8;
-
-// The value as a number from 0 to `last`, or the refusal.
-pub fn up_to(value: i64, last: u16, refusal: Refusal) -> Result<u16, Refusal>
-    ensures { MatchResult result (λ n. (up_to value last ≡ Some n) × (n ≤ last)) (λ e. (up_to value last ≡ None) × (e ≡ refusal)) }
-{
-    if value < 0 || value > i64::from(last) {
-        Err(refusal)
-    } else {
-        Ok(value as u16)
-    }
-}
-
-// Whether the value is at most `most` away from 0.
-pub fn is_within(value: i64, most: u64) -> bool
-    ensures { result ≡ within value most }
-{
-    value.unsigned_abs() <= most
-}

@@ -4,7 +4,7 @@ use lib.IntN.{zero-*ℤ, *ℤ_comm}
 use Rattle.std.proofs.lemmas.Int.{ints}
 use Rattle.std.proofs.lemmas.Nat.{mul-le}
 use Rattle.std.proofs.lemmas.Bool.{leb-true}
-use Rattle.hour.specs.Limits.{within}
+use Rattle.bounds.specs.Bounds.{within}
 use Rattle.posting.specs.Grids.{Within}
 use Rattle.numbers.specs.Rounding.{Nearest}
 use Rattle.weighting.specs.Sums.{sum_below}

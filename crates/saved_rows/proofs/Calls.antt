@@ -7,7 +7,7 @@ use Rattle.refusals.specs.declared.Refusal.{Refusal}
 use Rattle.refusals.specs.declared.Refusal.TheVariants.{BusOutside, HubBusOutside, ZoneOutside, HubBusFull, LoadOutside}
 use Rattle.faults.specs.declared.Spot.{Spot}
 use Rattle.faults.specs.declared.Why.TheVariants.{Value}
-use Rattle.hour.specs.Limits.{up_to}
+use Rattle.bounds.specs.Bounds.{up_to}
 use Rattle.hour.specs.Hour.{Hour, with_bus, bus_at, no_bus}
 use Rattle.hour.specs.Steps.{Outcome, Did, given, refuse_if, is_full, placed, placed_in, status_set, load_set, with_status, with_load}
 use Rattle.hour.specs.declared.records.Bus.{Bus}

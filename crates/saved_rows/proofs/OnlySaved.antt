@@ -10,7 +10,8 @@ use Rattle.faults.specs.declared.Why.TheVariants.{Ending}
 use Rattle.faults.specs.Faults.{spot, fault, in_line}
 use Rattle.bus_set.specs.Sets.{member, marked}
 use Rattle.bus_set.proofs.Sets.{no_members, member_with}
-use Rattle.hour.specs.Limits.{up_to, within, most_lambda, most_shadow_price, most_adder}
+use Rattle.bounds.specs.Bounds.{up_to, within}
+use Rattle.hour.specs.Limits.{most_lambda, most_shadow_price, most_adder}
 use Rattle.hour.specs.Hour.{Hour, no_bus, with_bus, with_constraint, with_run, constraint_at, out_of}
 use Rattle.hour.specs.Steps.{is_full, other_seconds, entered_run}
 use Rattle.hour.specs.declared.records.Bus.{Bus}

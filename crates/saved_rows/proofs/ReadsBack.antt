@@ -14,7 +14,8 @@ use Rattle.faults.specs.declared.Why.TheVariants.{Ending}
 use Rattle.faults.specs.Faults.{in_line, spot}
 use Rattle.bus_set.specs.Sets.{member, marked, four_words, SetOf}
 use Rattle.bus_set.proofs.Sets.{words_length, words_below, words_set, marked_more, marked_none, marked_all}
-use Rattle.hour.specs.Limits.{up_to, within, most_shadow_price, most_adder}
+use Rattle.bounds.specs.Bounds.{up_to, within}
+use Rattle.hour.specs.Limits.{most_shadow_price, most_adder}
 use Rattle.hour.specs.Sound.{when_some, bus_sound, lambda_sound, constraint_sound, run_sound, FewPerHubBus, hub_bus_size, in_hub_bus, total_seconds, seconds_of}
 use Rattle.hour.specs.Hour.{Hour, entries, no_bus, with_bus, with_constraint, with_run, constraint_at, out_of}
 use Rattle.hour.specs.Steps.{other_seconds, entered_run}

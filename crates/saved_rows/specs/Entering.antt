@@ -6,7 +6,8 @@ use Rattle.faults.specs.declared.Spot.{Spot}
 use Rattle.faults.specs.declared.Why.TheVariants.{Value, Ending}
 use Rattle.faults.specs.Faults.{spot}
 use Rattle.bus_set.specs.Sets.{marked}
-use Rattle.hour.specs.Limits.{up_to, within, last_bus, last_hub_bus, last_zone, most_load, last_constraint, most_shadow_price, most_lambda, last_run, most_adder, most_seconds}
+use Rattle.bounds.specs.Bounds.{up_to, within}
+use Rattle.hour.specs.Limits.{last_bus, last_hub_bus, last_zone, most_load, last_constraint, most_shadow_price, most_lambda, last_run, most_adder, most_seconds}
 use Rattle.hour.specs.Hour.{Hour, with_bus, constraint_at, with_constraint, out_of, with_run}
 use Rattle.hour.specs.Steps.{is_full, other_seconds, entered_run}
 use Rattle.hour.specs.declared.records.Bus.{Bus}

@@ -1,6 +1,6 @@
 // A line entered into a book.
 ghost use Rattle.std.specs.Prelude.{◌≡◌, ℕ, ◌≤◌, true, false, pos, is_ok, Some, None, Ok, Err, MatchResult};
-ghost use Rattle.hour.specs.Limits.{up_to, within};
+ghost use Rattle.bounds.specs.Bounds.{up_to, within};
 ghost use Rattle.hour.specs.Hour.{entries};
 ghost use Rattle.saved_rows.specs.Order.{eq_z};
 ghost use Rattle.saved_rows.specs.Running.{Takes, step, place};
@@ -12,10 +12,10 @@ use crate::stage::Stage;
 use faults::{Spot, Why, at};
 use hour::book::Book;
 use hour::limits::{
-    LAST_BUS, LAST_CONSTRAINT, LAST_HUB_BUS, LAST_RUN, LAST_ZONE, MOST_ADDER, MOST_LOAD, is_within,
-    up_to,
+    LAST_BUS, LAST_CONSTRAINT, LAST_HUB_BUS, LAST_RUN, LAST_ZONE, MOST_ADDER, MOST_LOAD,
 };
 use hour::records::Market;
+use bounds::{is_within, up_to};
 use refusals::Refusal;
 
 // The value of a field as a number from 0 to `last`, or the refusal at that field.

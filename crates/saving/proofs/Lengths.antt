@@ -7,7 +7,8 @@ use Rattle.std.proofs.lemmas.List.{length-append}
 use Rattle.std.proofs.lemmas.List.Sums.{sum_by-cons}
 use Rattle.std.proofs.lemmas.Bool.{and_parts, and_from, leb-true, le-leb}
 use Rattle.bus_set.specs.Sets.{member, four_words}
-use Rattle.hour.specs.Limits.{within, most_lambda, most_shadow_price, most_adder}
+use Rattle.bounds.specs.Bounds.{within}
+use Rattle.hour.specs.Limits.{most_lambda, most_shadow_price, most_adder}
 use Rattle.hour.specs.Sound.{all_by, when_some, bus_sound, lambda_sound, constraint_sound, run_sound, seconds_of, total_seconds}
 use Rattle.hour.specs.Hour.{entries}
 use Rattle.hour.specs.declared.records.Bus.{Bus}

@@ -3,7 +3,8 @@ use Rattle.std.proofs.Common.{◌≡◌, ℕ, ◌+◌, ◌<◌, Bool, true, not,
 use Rattle.std.proofs.lemmas.List.{take_more}
 use Rattle.faults.specs.declared.Fault.{Fault}
 use Rattle.refusals.specs.declared.Refusal.TheVariants.{LambdaOutside}
-use Rattle.hour.specs.Limits.{within, most_lambda}
+use Rattle.bounds.specs.Bounds.{within}
+use Rattle.hour.specs.Limits.{most_lambda}
 use Rattle.hour.specs.Hour.{Hour, entries, bus_at, run_at}
 use Rattle.hour.specs.Live.{base_live, is_out}
 use Rattle.hour.specs.Steps.{refuse_if}

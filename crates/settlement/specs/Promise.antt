@@ -1,6 +1,7 @@
 -- The promise over runs: a price hangs on its hour's live facts alone, after any list of calls, saves and resumes, for every weighting and every posting.
 use Rattle.std.specs.Prelude.{◌≡◌, ℕ, ◌<◌, true, List, [], ◌∷◌, ◌++◌, take, ℤ, ◌-ℤ◌, Some, None, Ok, Option}
-use Rattle.hour.specs.Limits.{within, most_lambda}
+use Rattle.bounds.specs.Bounds.{within}
+use Rattle.hour.specs.Limits.{most_lambda}
 use Rattle.hour.specs.Hour.{entries}
 use Rattle.hour.specs.declared.book.Book.{Book}
 use Rattle.hour.specs.declared.calls.Call.TheVariants.{Lambda}

@@ -3,7 +3,8 @@ use Rattle.std.specs.Prelude.{◌≡◌, ℕ, Bool, List, ℤ, pos, Some, None, 
 use Rattle.refusals.specs.declared.Refusal.{Refusal}
 use Rattle.refusals.specs.declared.Refusal.TheVariants.{ConstraintOutside, NotPosted, PointOutside}
 use Rattle.bus_set.specs.Sets.{SetOf}
-use Rattle.hour.specs.Limits.{up_to, last_constraint}
+use Rattle.bounds.specs.Bounds.{up_to}
+use Rattle.hour.specs.Limits.{last_constraint}
 use Rattle.hour.specs.Hour.{Hour, entries, constraint_at}
 use Rattle.hour.specs.Live.{base_live, live_under}
 use Rattle.hour.specs.declared.records.Constraint.{Constraint}

@@ -1,7 +1,7 @@
 // Points by kind and number, and what their buses weigh in the day-ahead base case or under a posted constraint.
 ghost use Rattle.std.specs.Prelude.{◌≡◌, Some, None, MatchResult};
 ghost use Rattle.hour.specs.Hour.{entries};
-ghost use Rattle.hour.specs.Limits.{up_to};
+ghost use Rattle.bounds.specs.Bounds.{up_to};
 ghost use Rattle.refusals.specs.declared.Refusal.TheVariants.{ConstraintOutside};
 ghost use Rattle.weighting.specs.Weighed.{case_of, numbered, LiveSetOf, WeighedIn, WeighedAt};
 

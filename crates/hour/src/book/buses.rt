@@ -5,8 +5,9 @@ ghost use Rattle.hour.specs.Hour.{entries, with_bus, OnlyBus};
 ghost use Rattle.hour.specs.Steps.{Did, placed, other_buses, is_full, status_set, load_set, with_status, with_load};
 
 use crate::book::Book;
-use crate::limits::{LAST_BUS, LAST_HUB_BUS, LAST_ZONE, MOST_BUSES, MOST_LOAD, up_to};
+use crate::limits::{LAST_BUS, LAST_HUB_BUS, LAST_ZONE, MOST_BUSES, MOST_LOAD};
 use crate::records::{Bus, Market};
+use bounds::up_to;
 use refusals::Refusal;
 
 impl Bus {

@@ -5,8 +5,9 @@ ghost use Rattle.hour.specs.Hour.{entries, with_constraint, out_of};
 ghost use Rattle.hour.specs.Steps.{Did, lambda_set, posted, struck, outage_set};
 
 use crate::book::Book;
-use crate::limits::{LAST_BUS, LAST_CONSTRAINT, MOST_LAMBDA, MOST_SHADOW_PRICE, is_within, up_to};
+use crate::limits::{LAST_BUS, LAST_CONSTRAINT, MOST_LAMBDA, MOST_SHADOW_PRICE};
 use crate::records::Constraint;
+use bounds::{is_within, up_to};
 use bus_set::{BusSet, marked};
 use refusals::Refusal;
 

@@ -5,8 +5,9 @@ ghost use Rattle.hour.specs.Hour.{entries, with_run};
 ghost use Rattle.hour.specs.Steps.{Did, other_seconds, entered_run, run_entered, run_dropped};
 
 use crate::book::Book;
-use crate::limits::{LAST_RUN, MOST_ADDER, MOST_SECONDS, is_within, up_to};
+use crate::limits::{LAST_RUN, MOST_ADDER, MOST_SECONDS};
 use crate::records::Run;
+use bounds::{is_within, up_to};
 use refusals::Refusal;
 
 impl Book {

@@ -1,6 +1,6 @@
 use Rattle.std.proofs.Common.{◌≡◌, ◌<◌, true, ◌&&◌, leb, rules}
 use Rattle.std.proofs.lemmas.Bool.{and_parts}
-use Rattle.hour.specs.Limits.{within}
+use Rattle.bounds.specs.Bounds.{within}
 use Rattle.hour.specs.Sound.{run_sound}
 use Rattle.hour.specs.declared.records.Run.{Run}
 use Rattle.posting.specs.Grids.{Within}

@@ -3,7 +3,7 @@ use Rattle.std.proofs.lemmas.Int.{to_z-of_z, ints}
 use Rattle.hour.specs.Sound.{seconds_of, run_sound}
 use Rattle.hour.specs.Steps.{entered_run}
 use Rattle.hour.specs.declared.records.Run.{Run}
-use Rattle.hour.specs.Limits.{within}
+use Rattle.bounds.specs.Bounds.{within}
 use Rattle.hour.proofs.Tables.{sum_by_put, up_to_is, run_sound_from}
 use Rattle.hour.proofs.book.Book.enter_run.Goals as goal
 

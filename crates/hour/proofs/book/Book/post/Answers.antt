@@ -2,7 +2,7 @@ use Rattle.std.proofs.Common.{◌≡◌, ℕ, ◌<◌, true, List, length, get_o
 use Rattle.std.proofs.lemmas.Int.{to_z-of_z}
 use Rattle.std.proofs.lemmas.Bool.{and_from}
 use Rattle.bus_set.specs.Sets.{four_words}
-use Rattle.hour.specs.Limits.{within}
+use Rattle.bounds.specs.Bounds.{within}
 use Rattle.hour.specs.Sound.{when_some, constraint_sound}
 use Rattle.hour.proofs.Tables.{all_by_get_d, out_words}
 use Rattle.hour.proofs.book.Book.post.Goals as goal

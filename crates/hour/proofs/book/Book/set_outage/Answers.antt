@@ -1,7 +1,7 @@
 use Rattle.std.proofs.Common.{◌≡◌, ◌<◌, true, length, Some, None, Option, subst, arith, w64, SFits, rules}
 use Rattle.std.proofs.lemmas.Int.{to_z-of_z}
 use Rattle.std.proofs.lemmas.Bool.{and_from, and_parts}
-use Rattle.hour.specs.Limits.{within}
+use Rattle.bounds.specs.Bounds.{within}
 use Rattle.hour.specs.Sound.{when_some, constraint_sound}
 use Rattle.hour.specs.declared.records.Constraint.{Constraint}
 use Rattle.hour.proofs.Tables.{all_by_get_d}

@@ -1,0 +1,24 @@
+// Numbers held to their limits. Arguments are wide, so that any number a caller has is granted or refused.
+#![tactic(auto)]
+
+ghost use Rattle.std.specs.Prelude.{◌≡◌, ◌≤◌, Some, None, MatchResult};
+ghost use Rattle.bounds.specs.Bounds.{up_to, within};
+
+use refusals::Refusal;
+
+// The value as a number from 0 to `last`, or the refusal.
+pub fn up_to(value: i64, last: u16, refusal: Refusal) -> Result<u16, Refusal>
+    ensures { MatchResult result (λ n. (up_to value last ≡ Some n) × (n ≤ last)) (λ e. (up_to value last ≡ None) × (e ≡ refusal)) }
+{
+    u16::try_from(value)
+        .ok()
+        .filter(|n| *n <= last)
+        .ok_or(refusal)
+}
+
+// Whether the value is at most `most` away from 0.
+pub fn is_within(value: i64, most: u64) -> bool
+    ensures { result ≡ within value most }
+{
+    value.unsigned_abs() <= most
+}
