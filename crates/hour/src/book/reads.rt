@@ -1,10 +1,12 @@
 // What a book holds, read out as plain values.
-ghost use Rattle.std.specs.Prelude.{◌≡◌, true};
-ghost use Rattle.hour.specs.Sound.{bus_sound, when_some, constraint_sound, run_sound, lambda_sound};
+ghost use Rattle.std.specs.Prelude.{◌≡◌, true, length};
+ghost use Rattle.std.specs.Slice.Iter.{iter_rest};
+ghost use Rattle.hour.specs.Sound.{all_by, bus_sound, when_some, constraint_sound, run_sound, lambda_sound};
 ghost use Rattle.hour.specs.Hour.{entries, bus_at, constraint_at, run_at};
 
 use crate::book::Book;
 use crate::records::{Bus, Constraint, Run};
+use std::slice;
 
 impl Book {
     // The record of a bus.
@@ -45,5 +47,32 @@ impl Book {
         } else {
             None
         }
+    }
+
+    // The records of all buses, from bus 0 on.
+    pub fn buses(&self) -> slice::Iter<'_, Bus>
+        ensures value { iter_rest result ≡ (entries self.now).buses }
+        ensures size { length (iter_rest result) ≡ 256 }
+        ensures sound { all_by bus_sound (iter_rest result) ≡ true }
+    {
+        self.buses.iter()
+    }
+
+    // All constraints, from constraint 0 on, each where it is posted.
+    pub fn constraints(&self) -> slice::Iter<'_, Option<Constraint>>
+        ensures value { iter_rest result ≡ (entries self.now).constraints }
+        ensures size { length (iter_rest result) ≡ 32 }
+        ensures sound { all_by (when_some constraint_sound) (iter_rest result) ≡ true }
+    {
+        self.constraints.iter()
+    }
+
+    // All runs, from run 0 on, each where it is entered.
+    pub fn runs(&self) -> slice::Iter<'_, Option<Run>>
+        ensures value { iter_rest result ≡ (entries self.now).runs }
+        ensures size { length (iter_rest result) ≡ 16 }
+        ensures sound { all_by (when_some run_sound) (iter_rest result) ≡ true }
+    {
+        self.runs.iter()
     }
 }
