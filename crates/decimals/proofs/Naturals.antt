@@ -1,5 +1,7 @@
 -- Digits and the number that they write.
-use Rattle.std.proofs.Common.{◌≡◌, ℕ, zero, suc, ◌+◌, ◌-◌, ◌*◌, ◌^◌, ◌<◌, ◌≤◌, true, false, eqb, List, [], ◌∷◌, length, get_or, drop, ℤ, pos, negsuc, ◌+ℤ◌, Ok, Err, Result, sym, refl, ap, ◌∙◌, subst, ⊎_elim, add-zero, pow-suc, add-one, arith, lit<, IfOk, MatchResult}
+use Rattle.std.proofs.Common.{◌≡◌, ℕ, zero, suc, ◌+◌, ◌-◌, ◌*◌, ◌^◌, ◌<◌, ◌≤◌, true, false, eqb, List, [], ◌∷◌, length, get_or, take, drop, ℤ, pos, negsuc, ◌+ℤ◌, Ok, Err, Result, sym, refl, ap, ◌∙◌, subst, ⊎_elim, add-zero, pow-suc, add-one, arith, lit<, IfOk, MatchResult}
+use lib.Pointwise.{pointwise}
+use Rattle.std.proofs.Math.Bool.{and-true}
 use native.Mathlib.Nat.{pow-le-pow_right}
 use Rattle.std.proofs.lemmas.Int.{ints, to_z_pos}
 use Rattle.std.specs.Char.{is_ascii_digit}
@@ -82,7 +84,7 @@ pub positive_map : (r : Result ℕ NotDecimal) (t : Result ℤ NotDecimal) → I
 positive_map (Ok n) t h e = e ∙ ap Ok (signed_pos n h)
 positive_map (Err d) t h e = e
 
--- an empty field has no minus
-pub no_minus_in : (s : List ℕ) → length s < 1 → get_or s 0 0 ≡ 45 → ⊥
-no_minus_in [] h e = omega arith
-no_minus_in (c ∷ cs) h e = omega arith
+-- whether a field begins with a minus
+pub minus_test : (s : List ℕ) → pointwise eqb (take 1 s) (45 ∷ []) ≡ eqb (get_or s 0 0) 45
+minus_test [] = refl
+minus_test (c ∷ cs) = and-true (eqb c 45)

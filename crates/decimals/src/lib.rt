@@ -78,8 +78,8 @@ pub fn read_decimal(field: &[u8]) -> Result<i64, NotDecimal>
     ensures accepts { (z : ℤ) → FewDigits z → field.now ≡ signed_decimal z → result ≡ Ok z }
     ensures canonical { (z : ℤ) → result ≡ Ok z → (field.now ≡ signed_decimal z) × FewDigits z }
 {
-    match field {
-        [b'-', digits @ ..] => read_negative(digits),
-        digits => read_natural(digits).map(|n| n.cast_signed()),
+    match field.strip_prefix(b"-") {
+        Some(digits) => read_negative(digits),
+        None => read_natural(field).map(|n| n.cast_signed()),
     }
 }
