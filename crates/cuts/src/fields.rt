@@ -35,12 +35,10 @@ pub fn malformed(field: u64) -> Spot
 pub fn read_status(field: &[u8]) -> Result<bool, NotStatus>
     ensures { result ≡ status_of field.now }
 {
-    if field.len() == 1 && field[0] == b'0' {
-        Ok(false)
-    } else if field.len() == 1 && field[0] == b'1' {
-        Ok(true)
-    } else {
-        Err(NotStatus)
+    match field {
+        [b'0'] => Ok(false),
+        [b'1'] => Ok(true),
+        _ => Err(NotStatus),
     }
 }
 
@@ -48,10 +46,9 @@ pub fn read_status(field: &[u8]) -> Result<bool, NotStatus>
 pub fn read_letter(field: &[u8]) -> Option<char>
     ensures { result ≡ letter_of field.now }
 {
-    if field.len() == 1 {
-        Some(char::from(field[0]))
-    } else {
-        None
+    match field {
+        [byte] => Some(char::from(*byte)),
+        _ => None,
     }
 }
 
