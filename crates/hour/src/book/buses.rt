@@ -1,36 +1,44 @@
 // The calls that change one bus record: place, status and load.
 ghost use Rattle.std.specs.Prelude.{◌≡◌, ℕ, ◌<◌, ◌≤◌, true, slice_set};
 ghost use Rattle.hour.specs.Sound.{FewPerHubBus, bus_sound, hub_bus_size};
-ghost use Rattle.hour.specs.Hour.{entries, with_bus, OnlyBus};
+ghost use Rattle.hour.specs.Hour.{entries, with_bus, with_standing, OnlyBus};
 ghost use Rattle.hour.specs.Steps.{Did, placed, other_buses, is_full, status_set, load_set, with_status, with_load};
 
 use crate::book::Book;
 use crate::limits::{LAST_BUS, LAST_HUB_BUS, LAST_ZONE, MOST_BUSES, MOST_LOAD};
-use crate::records::{Bus, Market};
+use crate::records::{Bus, Market, Standing};
 use bounds::up_to;
 use refusals::Refusal;
 
 impl Bus {
+    // The bus with this standing in a market.
+    fn with_standing(self, market: Market, standing: Standing) -> Bus
+        ensures { result ≡ with_standing market standing self }
+    {
+        match market {
+            Market::DayAhead => Bus {
+                day_ahead: standing,
+                ..self
+            },
+            Market::RealTime => Bus {
+                real_time: standing,
+                ..self
+            },
+        }
+    }
+
     fn with_status(self, market: Market, live: bool) -> Bus
         ensures { result ≡ with_status self market live }
     {
-        let mut bus = self;
-        match market {
-            Market::DayAhead => bus.day_ahead.live = live,
-            Market::RealTime => bus.real_time.live = live,
-        }
-        bus
+        let old = self.standing(market);
+        self.with_standing(market, Standing { live, ..old })
     }
 
     fn with_load(self, market: Market, load: u16) -> Bus
         ensures { result ≡ with_load self market load }
     {
-        let mut bus = self;
-        match market {
-            Market::DayAhead => bus.day_ahead.load = load,
-            Market::RealTime => bus.real_time.load = load,
-        }
-        bus
+        let old = self.standing(market);
+        self.with_standing(market, Standing { load, ..old })
     }
 }
 
@@ -49,13 +57,7 @@ impl Book {
     fn hub_bus_size(&self, hub_bus: u8) -> usize
         ensures { result ≡ hub_bus_size hub_bus self.now.buses }
     {
-        let mut n: usize = 0;
-        for b in self.buses.iter() {
-            if b.hub_bus == hub_bus {
-                n += 1;
-            }
-        }
-        n
+        self.buses.iter().filter(|b| b.hub_bus == hub_bus).count()
     }
 
     // How many buses other than this one belong to the hub bus.

@@ -13,10 +13,7 @@ impl Bus {
     pub fn is_live(&self, market: Market) -> bool
         ensures { result ≡ is_live market self.now }
     {
-        match market {
-            Market::DayAhead => self.day_ahead.live,
-            Market::RealTime => self.real_time.live,
-        }
+        self.standing(market).live
     }
 }
 
