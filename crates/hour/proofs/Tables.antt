@@ -27,6 +27,12 @@ all_by_get_d p [] i d l h = absurd (not-suc-le-zero l)
 all_by_get_d p (x ∷ xs) zero d l h = (and_parts (p x) (all_by p xs) h).0
 all_by_get_d p (x ∷ xs) (suc i) d l h = all_by_get_d p xs i d (le_of_suc-le-suc l) (and_parts (p x) (all_by p xs) h).1
 
+-- at a place past the list there is nothing to test
+pub all_by_get_or : {A : Type 0} (p : A → Bool) (xs : List (Option A)) (i : ℕ) → all_by (when_some p) xs ≡ true → when_some p (get_or xs i None) ≡ true
+all_by_get_or p [] i h = refl
+all_by_get_or p (x ∷ xs) zero h = (and_parts (when_some p x) (all_by (when_some p) xs) h).0
+all_by_get_or p (x ∷ xs) (suc i) h = all_by_get_or p xs i (and_parts (when_some p x) (all_by (when_some p) xs) h).1
+
 -- a count over a list is the count over the others and of the one at i
 pub sum_by_removed : {A : Type 0} (f : A → ℕ) (xs : List A) (i : ℕ) (d : A) → i < length xs → sum_by f xs ≡ sum_by f (remove xs i) + f (get_or xs i d)
 sum_by_removed f xs i d l =

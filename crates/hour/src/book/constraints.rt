@@ -63,13 +63,7 @@ impl Book {
         let b = up_to(bus, LAST_BUS, Refusal::BusOutside)? as u8;
         let old = self.constraints[i].ok_or(Refusal::NotPosted)?;
         let marks = marked(old.out, b, out);
-        self.replace_constraint(
-            i,
-            Some(Constraint {
-                shadow_price: old.shadow_price,
-                out: marks,
-            }),
-        );
+        self.replace_constraint(i, Some(Constraint { out: marks, ..old }));
         Ok(())
     }
 }
@@ -78,8 +72,10 @@ impl Book {
 pub fn out_of(constraint: Option<Constraint>) -> BusSet
     ensures { result ≡ out_of constraint }
 {
-    match constraint {
-        Some(c) => c.out,
-        None => [0; 4],
-    }
+    constraint.map_or(
+        [0; 4],
+        |posted| -> BusSet
+            ensures { result ≡ posted.out }
+        { posted.out },
+    )
 }

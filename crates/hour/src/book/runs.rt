@@ -25,11 +25,7 @@ impl Book {
     pub fn total_seconds(&self) -> u16
         ensures { result ≡ total_seconds (entries self.now).runs }
     {
-        let mut total: u16 = 0;
-        for run in self.runs.iter() {
-            total += seconds_of(*run);
-        }
-        total
+        self.runs.iter().map(|run| seconds_of(*run)).sum()
     }
 
     // The seconds of the entered runs other than run i.
@@ -92,8 +88,5 @@ fn entered(seconds: u16, reserve: i64, reliability: i64) -> Run
 fn seconds_of(run: Option<Run>) -> u16
     ensures { result ≡ seconds_of run }
 {
-    match run {
-        Some(r) => r.seconds,
-        None => 0,
-    }
+    run.map_or(0, |run| run.seconds)
 }
