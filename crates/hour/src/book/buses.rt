@@ -1,5 +1,6 @@
 // The calls that change one bus record: place, status and load.
-ghost use Rattle.std.specs.Prelude.{◌≡◌, ℕ, ◌<◌, ◌≤◌, true, slice_set};
+ghost use Rattle.std.specs.Prelude.{◌≡◌, ℕ, ◌<◌, ◌≤◌, true, Some, None, MatchResult, slice_set};
+ghost use Rattle.bounds.specs.Bounds.{up_to};
 ghost use Rattle.hour.specs.Sound.{FewPerHubBus, bus_sound, hub_bus_size};
 ghost use Rattle.hour.specs.Hour.{entries, with_bus, with_standing, OnlyBus};
 ghost use Rattle.hour.specs.Steps.{Did, placed, other_buses, is_full, status_set, load_set, with_status, with_load};
@@ -50,7 +51,7 @@ impl Book {
         ensures value { entries self.new ≡ with_bus (entries self.old) bus new }
         ensures only { OnlyBus bus (entries self.old) (entries self.new) }
     {
-        self.buses[bus as usize] = new;
+        self.buses[usize::from(bus)] = new;
     }
 
     // How many buses belong to the hub bus, live or dead.
@@ -65,7 +66,7 @@ impl Book {
         ensures { result ≡ other_buses (entries self.now) bus hub_bus }
     {
         let all = self.hub_bus_size(hub_bus);
-        let own = self.buses[bus as usize].hub_bus;
+        let own = self.bus(bus).hub_bus;
         if own == hub_bus { all - 1 } else { all }
     }
 
@@ -80,13 +81,13 @@ impl Book {
     pub fn place(&mut self, bus: i64, hub_bus: i64, zone: i64) -> Result<(), Refusal>
         ensures { Did (placed (entries self.old) bus hub_bus zone) (entries self.old) (entries self.new) result }
     {
-        let b = up_to(bus, LAST_BUS, Refusal::BusOutside)? as u8;
-        let hub = up_to(hub_bus, LAST_HUB_BUS, Refusal::HubBusOutside)? as u8;
-        let area = up_to(zone, LAST_ZONE, Refusal::ZoneOutside)? as u8;
+        let b = byte_up_to(bus, LAST_BUS, Refusal::BusOutside)?;
+        let hub = byte_up_to(hub_bus, LAST_HUB_BUS, Refusal::HubBusOutside)?;
+        let area = byte_up_to(zone, LAST_ZONE, Refusal::ZoneOutside)?;
         if self.is_full(b, hub) {
             return Err(Refusal::HubBusFull);
         }
-        let old = self.buses[b as usize];
+        let old = self.bus(b);
         self.replace_bus(
             b,
             Bus {
@@ -102,8 +103,8 @@ impl Book {
     pub fn set_status(&mut self, bus: i64, market: Market, live: bool) -> Result<(), Refusal>
         ensures { Did (status_set (entries self.old) bus market live) (entries self.old) (entries self.new) result }
     {
-        let b = up_to(bus, LAST_BUS, Refusal::BusOutside)? as u8;
-        let new = self.buses[b as usize].with_status(market, live);
+        let b = byte_up_to(bus, LAST_BUS, Refusal::BusOutside)?;
+        let new = self.bus(b).with_status(market, live);
         self.replace_bus(b, new);
         Ok(())
     }
@@ -112,10 +113,19 @@ impl Book {
     pub fn set_load(&mut self, bus: i64, market: Market, load: i64) -> Result<(), Refusal>
         ensures { Did (load_set (entries self.old) bus market load) (entries self.old) (entries self.new) result }
     {
-        let b = up_to(bus, LAST_BUS, Refusal::BusOutside)? as u8;
+        let b = byte_up_to(bus, LAST_BUS, Refusal::BusOutside)?;
         let amount = up_to(load, MOST_LOAD, Refusal::LoadOutside)?;
-        let new = self.buses[b as usize].with_load(market, amount);
+        let new = self.bus(b).with_load(market, amount);
         self.replace_bus(b, new);
         Ok(())
     }
+}
+
+// The value as a byte from 0 to `last`, or the refusal.
+pub(super) fn byte_up_to(value: i64, last: u16, refusal: Refusal) -> Result<u8, Refusal>
+    requires { last < 256 }
+    ensures { MatchResult result (λ n. (up_to value last ≡ Some n) × (n ≤ last)) (λ e. (up_to value last ≡ None) × (e ≡ refusal)) }
+{
+    // What `up_to` grants is at most `last`, so the cast is proved to lose nothing.
+    up_to(value, last, refusal).map(|n| n as u8)
 }

@@ -47,7 +47,7 @@ impl Book {
     ) -> Result<(), Refusal>
         ensures { Did (run_entered (entries self.old) run seconds reserve_adder reliability_adder) (entries self.old) (entries self.new) result }
     {
-        let i = up_to(run, LAST_RUN, Refusal::RunOutside)? as usize;
+        let i = usize::from(up_to(run, LAST_RUN, Refusal::RunOutside)?);
         if seconds < 1 {
             return Err(Refusal::SecondsOutside);
         }
@@ -67,7 +67,7 @@ impl Book {
     pub fn drop_run(&mut self, run: i64) -> Result<(), Refusal>
         ensures { Did (run_dropped (entries self.old) run) (entries self.old) (entries self.new) result }
     {
-        let i = up_to(run, LAST_RUN, Refusal::RunOutside)? as usize;
+        let i = usize::from(up_to(run, LAST_RUN, Refusal::RunOutside)?);
         let _ = self.runs[i].ok_or(Refusal::NotEntered)?;
         self.replace_run(i, None);
         Ok(())

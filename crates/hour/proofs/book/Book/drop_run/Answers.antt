@@ -8,7 +8,8 @@ replace_run-requires c =
     let book = c.args.self.now in
     let size = book.columns.1 in
     let most = book.seconds in
-    let i = c.in_ok-i.field-0 in
-    let pi = c.in_ok-i.ensures in
+    let i = c.from-i.result in
+    let same = c.from-i.ensures in
+    let pi = c.in_ok-up_to.ensures in
     let lt : i < length book.runs = omega arith in
     record { place = omega arith; sound = refl; seconds = omega (arith, sum_by-set seconds_of book.runs i None None lt) }

@@ -11,8 +11,9 @@ pub replace_run-requires : goal.replace_run-requires
 replace_run-requires c =
     let book = c.args.self.now in
     let size = book.columns.1 in
-    let i = c.in_ok-i.field-0 in
-    let pi = c.in_ok-i.ensures in
+    let i = c.from-i.result in
+    let same = c.from-i.ensures in
+    let pi = c.in_ok-up_to.ensures in
     let lt : i < length book.runs = omega arith in
     let n = c.in_ok-length.length in
     let pn = c.in_ok-length.ensures in

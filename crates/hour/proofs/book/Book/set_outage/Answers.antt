@@ -11,8 +11,9 @@ pub replace_constraint-requires : goal.replace_constraint-requires
 replace_constraint-requires c =
     let book = c.args.self.now in
     let size = book.columns.0 in
-    let i = c.in_ok-i.field-0 in
-    let pi = c.in_ok-i.ensures in
+    let i = c.from-i.result in
+    let same = c.from-i.ensures in
+    let pi = c.in_ok-up_to.ensures in
     let lt : i < length book.constraints = omega arith in
     let old = c.in_ok-old.old in
     let was : when_some constraint_sound (Some old) ≡ true =
