@@ -59,7 +59,14 @@ impl Book {
         }
         let left = MOST_SECONDS - self.other_seconds(i);
         let length = up_to(seconds, left, Refusal::SecondsOutside)?;
-        self.replace_run(i, Some(entered(length, reserve_adder, reliability_adder)));
+        self.replace_run(
+            i,
+            Some(Run {
+                seconds: length,
+                reserve_adder,
+                reliability_adder,
+            }),
+        );
         Ok(())
     }
 
@@ -71,16 +78,6 @@ impl Book {
         let _ = self.runs[i].ok_or(Refusal::NotEntered)?;
         self.replace_run(i, None);
         Ok(())
-    }
-}
-
-fn entered(seconds: u16, reserve: i64, reliability: i64) -> Run
-    ensures { result ≡ entered_run seconds reserve reliability }
-{
-    Run {
-        seconds,
-        reserve_adder: reserve,
-        reliability_adder: reliability,
     }
 }
 

@@ -1,21 +1,15 @@
-use Rattle.std.proofs.Common.{◌≡◌, ◌<◌, true, length, sym, ap, ◌∙◌, subst, arith}
-use Rattle.hour.specs.Sound.{bus_sound}
+use Rattle.std.proofs.Common.{◌<◌, length, ap, ◌∙◌, arith}
 use Rattle.hour.specs.Hour.{no_bus}
 use Rattle.hour.specs.declared.records.Bus.{Bus}
-use Rattle.hour.proofs.Tables.{few_kept, load_sound, load_hub}
+use Rattle.hour.proofs.Tables.{few_kept, load_hub}
 use Rattle.hour.proofs.book.Book.set_load.Goals as goal
 
-pub replace_bus-requires : goal.replace_bus-requires
-replace_bus-requires c =
+pub replace_bus-requires-clause-few : goal.replace_bus-requires-clause-few
+replace_bus-requires-clause-few c =
     let book = c.args.self.now in
     let size = book.size in
     let b = c.in_ok-b.b in
-    let pb = c.in_ok-b.ensures in
+    let low = c.in_ok-b.ensures in
     let lt : b < length book.buses = omega arith in
-    let old = c.bus.result in
-    let e = c.with_load-new.ensures in
-    let hub = ap (λ (x : Bus). x.hub_bus) e ∙ load_hub old c.args.market c.in_ok-amount.amount ∙ ap (λ (x : Bus). x.hub_bus) c.bus.ensures.value in
-    record {
-      sound = subst (λ (x : Bus). bus_sound x ≡ true) (sym e) (load_sound old c.args.market c.in_ok-amount.amount c.in_ok-amount.ensures.1 c.bus.ensures.sound);
-      few = few_kept book.buses b c.with_load-new.result no_bus lt book.few hub;
-    }
+    let hub = λ (x : Bus). x.hub_bus in
+    few_kept book.buses b c.with_load-new.result no_bus lt book.few (ap hub c.with_load-new.ensures ∙ load_hub c.bus.result c.args.market c.in_ok-amount.amount ∙ ap hub c.bus.ensures.value)
