@@ -17,7 +17,7 @@ pub fn empty() -> BusSet
 pub fn contains(set: BusSet, bus: u8) -> bool
     ensures { result ≡ member set bus }
 {
-    let i = bus as usize;
+    let i = usize::from(bus);
     (set[i / 64] >> (i % 64)) & 1 == 1
 }
 
@@ -27,11 +27,13 @@ pub fn marked(set: BusSet, bus: u8, on: bool) -> BusSet
     ensures law { SetOf (λ k. (if nat_eq k bus then on else member set k)) result }
     ensures words { four_words result ≡ true }
 {
-    let i = bus as usize;
+    let i = usize::from(bus);
     let mut new = set;
-    new[i / 64] = with_bit(set[i / 64], (i % 64) as u32, on);
+    new[i / 64] = with_bit(set[i / 64], bus % 64, on);
     new
 }
+
+// Four words are written as four below, which no loop or `from_fn` says more plainly.
 
 // The buses that are in both sets.
 pub fn both(a: BusSet, b: BusSet) -> BusSet
@@ -55,14 +57,10 @@ pub fn count(set: BusSet) -> u32
 }
 
 // The word with bit k set or cleared.
-fn with_bit(word: u64, k: u32, on: bool) -> u64
+fn with_bit(word: u64, k: u8, on: bool) -> u64
     requires { k < 64 }
     ensures { result ≡ with_bit word k on }
 {
     let bit = 1u64 << k;
-    if on {
-        word | bit
-    } else {
-        word & (u64::MAX - bit)
-    }
+    if on { word | bit } else { word & !bit }
 }

@@ -1,25 +1,59 @@
 -- The laws of cutting and joining.
-use Rattle.std.proofs.Common.{◌≡◌, ℕ, zero, suc, ◌<◌, ◌≤◌, true, false, cond, eqb, List, [], ◌∷◌, ◌++◌, length, get_or, take, drop, Some, None, sym, refl, ap, ◌∙◌, subst, ⊎_elim, arith}
-use Rattle.std.specs.List.{AllByRecursion as All}
+use Rattle.std.proofs.Common.{◌≡◌, ℕ, suc, ◌+◌, Bool, true, false, cond, not, eqb, ltb, List, [], ◌∷◌, ◌++◌, length, take, drop, Some, None, Option, MatchOption, sym, refl, ap, ap₂, ◌∙◌, subst, ⊎_elim, one-add, arith}
+use Rattle.std.proofs.lemmas.List.{take_all}
+use Rattle.std.proofs.lemmas.Bool.Decides.{nat_tests}
+use Rattle.std.specs.List.{AllByRecursion as All, position_or_len, position}
 use Rattle.std.proofs.lemmas.Bool.{cond-true, cond-false, cases_Bool, eq-eqb, ne_eqb, eqb-true}
 use Rattle.cuts.specs.Cuts.{front, after, on_first, split, split_rest, join}
 
 module _ (sep : ℕ) where
-  pub front_at : (s : List ℕ) (n : ℕ) → n ≤ length s → ((k : ℕ) → k < n → get_or s k 0 ≡ sep → ⊥) → (n < length s → get_or s n 0 ≡ sep) → take n s ≡ front sep s
-  front_at [] zero l b f = refl
-  front_at [] (suc n) l b f = absurd (omega arith)
-  front_at (x ∷ xs) zero l b f = sym (cond-true _ _ _ (eq-eqb x sep (f (omega arith))))
-  front_at (x ∷ xs) (suc n) l b f =
-      ap (λ t. x ∷ t) (front_at xs n (omega arith) (λ k h e. b (suc k) (omega arith) e) (λ h. f (omega arith))) ∙ sym (cond-false _ _ _ (ne_eqb x sep (b 0 (omega arith))))
+  -- the first place of the separator, or the length
+  abbrev first : List ℕ → ℕ
+  first s = position_or_len (λ b. eqb b sep) s
 
-  pub after_at : (s : List ℕ) (n : ℕ) → n < length s → ((k : ℕ) → k < n → get_or s k 0 ≡ sep → ⊥) → get_or s n 0 ≡ sep → after sep s ≡ Some (drop (suc n) s)
-  after_at [] n l b f = absurd (omega arith)
-  after_at (x ∷ xs) zero l b f = cond-true _ _ _ (eq-eqb x sep f)
-  after_at (x ∷ xs) (suc n) l b f = cond-false _ _ _ (ne_eqb x sep (b 0 (omega arith))) ∙ after_at xs n (omega arith) (λ k h e. b (suc k) (omega arith) e) f
+  front_step : (b : Bool) (x n : ℕ) (xs : List ℕ) → take n xs ≡ front sep xs → take (cond (not b) (1 + n) 0) (x ∷ xs) ≡ cond b [] (x ∷ front sep xs)
+  front_step true x n xs h = refl
+  front_step false x n xs h = rw one-add (ap (λ t. x ∷ t) h)
 
-  pub after_none : (s : List ℕ) → ((k : ℕ) → k < length s → get_or s k 0 ≡ sep → ⊥) → after sep s ≡ None
-  after_none [] b = refl
-  after_none (x ∷ xs) b = cond-false _ _ _ (ne_eqb x sep (b 0 (omega arith))) ∙ after_none xs (λ k h e. b (suc k) (omega arith) e)
+  front_first : (s : List ℕ) → take (first s) s ≡ front sep s
+  front_first [] = refl
+  front_first (x ∷ xs) = front_step (eqb x sep) x (first xs) xs (front_first xs)
+
+  -- what follows place n, where it is one of the list
+  abbrev behind : ℕ → List ℕ → Option (List ℕ)
+  behind n s = cond (ltb n (length s)) (Some (drop (n + 1) s)) None
+
+  after_step : (b : Bool) (x n : ℕ) (xs : List ℕ) → behind n xs ≡ after sep xs → behind (cond (not b) (1 + n) 0) (x ∷ xs) ≡ cond b (Some xs) (after sep xs)
+  after_step true x n xs h =
+      let t : ltb 0 (length (x ∷ xs)) ≡ true = grind (arith, nat_tests) in
+      ap (λ b. cond b (Some xs) None) t
+  after_step false x n xs h =
+      let t : ltb (1 + n) (length (x ∷ xs)) ≡ ltb n (length xs) = grind (arith, nat_tests) in
+      let k : 1 + n + 1 ≡ suc (n + 1) = omega arith in
+      let d : drop (1 + n + 1) (x ∷ xs) ≡ drop (n + 1) xs = ap (λ m. drop m (x ∷ xs)) k in
+      ap₂ (λ (b : Bool) (l : List ℕ). cond b (Some l) None) t d ∙ h
+
+  after_first : (s : List ℕ) → behind (first s) s ≡ after sep s
+  after_first [] = refl
+  after_first (x ∷ xs) = after_step (eqb x sep) x (first xs) xs (after_first xs)
+
+  cut_cases : (s : List ℕ) (b : Bool) (o : Option ℕ) → ltb (first s) (length s) ≡ b → cond b (Some (first s)) None ≡ o
+      → MatchOption o ((s ≡ front sep s) × (after sep s ≡ None)) (λ n. (take n s ≡ front sep s) × (after sep s ≡ Some (drop (n + 1) s)))
+  cut_cases s true (Some n) t e = let q : first s ≡ n = cc in (
+    ap (λ k. take k s) (sym q) ∙ front_first s,
+    sym (after_first s) ∙ ap (λ b. cond b (Some (drop (first s + 1) s)) None) t ∙ ap (λ k. Some (drop (k + 1) s)) q,
+  )
+  cut_cases s false None t e = (
+    sym (take_all (first s) s (grind (arith, nat_tests))) ∙ front_first s,
+    sym (after_first s) ∙ ap (λ b. cond b (Some (drop (first s + 1) s)) None) t,
+  )
+  cut_cases s true None t e = absurd (cc)
+  cut_cases s false (Some n) t e = absurd (cc)
+
+  -- a text cut at the first separator, or not at all
+  pub cut_at : (s : List ℕ) (o : Option ℕ) → position (λ b. eqb b sep) s ≡ o
+      → MatchOption o ((s ≡ front sep s) × (after sep s ≡ None)) (λ n. (take n s ≡ front sep s) × (after sep s ≡ Some (drop (n + 1) s)))
+  cut_at s o e = cut_cases s (ltb (first s) (length s)) o refl e
 
   -- the first piece, and the others
   pub split_front : (s : List ℕ) → split sep s ≡ front sep s ∷ split_rest sep (after sep s)

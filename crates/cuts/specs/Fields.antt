@@ -72,6 +72,11 @@ abbrev pub Stuck : {X E : Type 0} → (List ℕ → Result X E) → List (List �
 Stuck read [] = Unit {0}
 Stuck {E} read (p ∷ ps) = (e : E) × (read p ≡ Err e)
 
+-- there is no piece, or the next one is faulty
+abbrev pub Faulty : List (List ℕ) → Type 0 → (List ℕ → Type 0) → Type 0
+Faulty [] missing wrong = missing
+Faulty (p ∷ ps) missing wrong = wrong p
+
 -- a piece is left
 abbrev pub Further : List (List ℕ) → Type 0
 Further [] = ⊥

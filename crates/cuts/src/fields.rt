@@ -1,9 +1,11 @@
 // The fields of a line, one after the other.
-ghost use Rattle.std.specs.Prelude.{◌≡◌, [], ◌∷◌, MatchResult};
+ghost use Rattle.std.specs.Prelude.{◌≡◌, [], ◌∷◌, Ok, Err, MatchResult};
+ghost use Rattle.std.specs.Fn.{FnOnceReturnsAt};
+ghost use Rattle.std.specs.Iterator.{YieldsFirstRef, item_count};
 ghost use Rattle.faults.specs.declared.Why.TheVariants.{Form};
 ghost use Rattle.decimals.specs.Decimals.{decimal_of};
 ghost use Rattle.cuts.specs.Cuts.{split};
-ghost use Rattle.cuts.specs.Fields.{comma, form_at, status_of, letter_of, left, Takes, Stuck, Further};
+ghost use Rattle.cuts.specs.Fields.{comma, form_at, status_of, letter_of, left, Takes, Stuck, Further, Faulty};
 
 use crate::pieces::cut;
 use decimals::read_decimal;
@@ -35,12 +37,10 @@ pub fn malformed(field: u64) -> Spot
 pub fn read_status(field: &[u8]) -> Result<bool, NotStatus>
     ensures { result ≡ status_of field.now }
 {
-    if field.len() == 1 && field[0] == b'0' {
-        Ok(false)
-    } else if field.len() == 1 && field[0] == b'1' {
-        Ok(true)
-    } else {
-        Err(NotStatus)
+    match field {
+        [b'0'] => Ok(false),
+        [b'1'] => Ok(true),
+        _ => Err(NotStatus),
     }
 }
 
@@ -48,10 +48,9 @@ pub fn read_status(field: &[u8]) -> Result<bool, NotStatus>
 pub fn read_letter(field: &[u8]) -> Option<char>
     ensures { result ≡ letter_of field.now }
 {
-    if field.len() == 1 {
-        Some(char::from(field[0]))
-    } else {
-        None
+    match field {
+        [byte] => Some(char::from(*byte)),
+        _ => None,
     }
 }
 
@@ -70,15 +69,17 @@ impl<'a> Fields<'a> {
         (first, Fields { rest })
     }
 
-    // The next field.
-    fn next(&mut self, field: u64) -> Result<&'a [u8], Spot>
-        ensures { MatchResult result (λ t. left self.old ≡ t.now ∷ left self.new) (λ e. (e ≡ form_at field) × (left self.old ≡ [])) }
+    // The next field, which has to be one that `read` accepts.
+    fn accepted<T, E, F>(&mut self, field: u64, read: F) -> Result<&'a [u8], Spot>
+    where
+        T: Drop,
+        F: FnOnce(&[u8]) -> Result<T, E>,
+        Why: From<E>,
+        requires { F.IsAlwaysCallable read }
+        ensures { MatchResult result (λ t. (left self.old ≡ t.now ∷ left self.new) × ((x : T) × FnOnceReturnsAt F.FnOnce read t.now (Ok x))) (λ s. (s.field ≡ field) × Faulty (left self.old) (s ≡ form_at field) (λ p. (e : E) × FnOnceReturnsAt F.FnOnce read p (Err e) × bound-2.from_gives e s.why)) }
     {
-        let Some(rest) = self.rest else {
-            return Err(malformed(field));
-        };
-        let (piece, rest) = cut(rest, b',');
-        self.rest = rest;
+        let piece = self.next().ok_or(malformed(field))?;
+        let _ = at(field, read(piece))?;
         Ok(piece)
     }
 
@@ -86,27 +87,39 @@ impl<'a> Fields<'a> {
     pub fn number(&mut self, field: u64) -> Result<&'a [u8], Spot>
         ensures { MatchResult result (λ t. Takes decimal_of (left self.old) t.now (left self.new)) (λ e. (e ≡ form_at field) × Stuck decimal_of (left self.old)) }
     {
-        let piece = self.next(field)?;
-        let _ = at(field, read_decimal(piece))?;
-        Ok(piece)
+        self.accepted(field, read_decimal)
     }
 
     // The next field, which has to be a status.
     pub fn status(&mut self, field: u64) -> Result<&'a [u8], Spot>
         ensures { MatchResult result (λ t. Takes status_of (left self.old) t.now (left self.new)) (λ e. (e ≡ form_at field) × Stuck status_of (left self.old)) }
     {
-        let piece = self.next(field)?;
-        let _ = at(field, read_status(piece))?;
-        Ok(piece)
+        self.accepted(field, read_status)
     }
 
     // No further field, which would have this number.
     pub fn end(self, field: u64) -> Result<(), Spot>
         ensures { MatchResult result (λ _. left self.entry ≡ []) (λ e. (e ≡ form_at field) × Further (left self.entry)) }
     {
+        // Here `None` is what is wanted, and no combinator turns it into an `Ok` as plainly.
         match self.rest {
             None => Ok(()),
             Some(_) => Err(malformed(field)),
         }
+    }
+}
+
+// The fields that are left.
+impl<'a> Iterator for Fields<'a> {
+    type Item = &'a [u8];
+
+    ghost next_gives = { YieldsFirstRef left };
+
+    ghost remaining = { item_count left };
+
+    fn next(&mut self) -> Option<&'a [u8]> {
+        let (field, rest) = cut(self.rest?, b',');
+        self.rest = rest;
+        Some(field)
     }
 }

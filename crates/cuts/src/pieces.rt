@@ -1,19 +1,12 @@
 // A part of a text up to a separator, and what follows.
-ghost use Rattle.std.specs.Prelude.{◌≡◌, ℕ, ◌<◌, ◌≤◌, length, Some, None, MatchOption, ◌≢◌, slice_index};
+ghost use Rattle.std.specs.Prelude.{◌≡◌, Some, None, MatchOption, ◌==◌, position};
 ghost use Rattle.cuts.specs.Cuts.{front, after};
 
-// The index of the first `sep`, or the length where there is none.
-fn find(s: &[u8], sep: u8) -> usize
-    ensures within { result ≤ length s.now }
-    ensures before { (k : ℕ) → k < result → slice_index s.now k ≢ sep }
-    ensures found { result < length s.now → slice_index s.now result ≡ sep }
+// The index of the first `sep`.
+fn find(s: &[u8], sep: u8) -> Option<usize>
+    ensures { result ≡ position (λ b. b == sep) s.now }
 {
-    for (i, x) in s.iter().enumerate() {
-        if *x == sep {
-            return i;
-        }
-    }
-    s.len()
+    s.iter().position(|b| *b == sep)
 }
 
 // What stands before the first `sep`, and what stands after it, where there is one.
@@ -21,11 +14,8 @@ pub fn cut(s: &[u8], sep: u8) -> (&[u8], Option<&[u8]>)
     ensures front { result.0.now ≡ front sep s.now }
     ensures after { MatchOption result.1 (after sep s.now ≡ None) (λ t. after sep s.now ≡ Some t.now) }
 {
-    let at = find(s, sep);
-    let piece = &s[0..at];
-    if at < s.len() {
-        (piece, Some(&s[at + 1..]))
-    } else {
-        (piece, None)
+    match find(s, sep) {
+        Some(at) => (&s[..at], Some(&s[at + 1..])),
+        None => (s, None),
     }
 }

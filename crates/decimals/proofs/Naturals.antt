@@ -1,8 +1,11 @@
 -- Digits and the number that they write.
-use Rattle.std.proofs.Common.{◌≡◌, ℕ, zero, suc, ◌+◌, ◌-◌, ◌*◌, ◌^◌, ◌<◌, ◌≤◌, true, false, eqb, List, [], ◌∷◌, length, get_or, drop, ℤ, pos, negsuc, ◌+ℤ◌, Ok, Err, Result, sym, refl, ap, ◌∙◌, subst, ⊎_elim, add-zero, pow-suc, add-one, arith, lit<}
+use Rattle.std.proofs.Common.{◌≡◌, ℕ, zero, suc, ◌+◌, ◌-◌, ◌*◌, ◌^◌, ◌<◌, ◌≤◌, true, false, eqb, List, [], ◌∷◌, length, get_or, take, drop, ℤ, pos, negsuc, ◌+ℤ◌, Ok, Err, Result, sym, refl, ap, ◌∙◌, subst, ⊎_elim, add-zero, pow-suc, add-one, arith, lit<, IfOk, MatchResult}
+use lib.Pointwise.{pointwise}
+use Rattle.std.proofs.Math.Bool.{and-true}
 use native.Mathlib.Nat.{pow-le-pow_right}
-use Rattle.std.proofs.lemmas.Int.{ints}
+use Rattle.std.proofs.lemmas.Int.{ints, to_z_pos}
 use Rattle.std.specs.Char.{is_ascii_digit}
+use Rattle.std.specs.Int.{w64, cast_signed}
 use Rattle.std.proofs.lemmas.Bool.{cond-true, cond-false, cases_Bool}
 use Rattle.std.proofs.lemmas.Bool.Decides.{nat_tests}
 use Rattle.std.proofs.lemmas.List.{at_drop_more}
@@ -72,16 +75,16 @@ pub negative_some : (r : Result ℕ NotDecimal) (n : ℕ) (z : ℤ) → Ok n ≡
 negative_some r zero z q f e = absurd (f refl)
 negative_some r (suc n) z q f e = let w : z ≡ negsuc n = omega (arith, ints) in ap Ok w ∙ ap negative q
 
-pub positive_some : (r : Result ℕ NotDecimal) (n : ℕ) (z : ℤ) → Ok n ≡ r → z ≡ pos n → Ok z ≡ positive r
-positive_some r n z q e = ap Ok e ∙ ap positive q
+-- as a signed number
+pub signed_pos : (n : ℕ) → n < 10 ^ 15 → cast_signed w64 n ≡ pos n
+signed_pos n h = to_z_pos w64 n (omega arith)
 
-pub positive_err : (r : Result ℕ NotDecimal) (e : NotDecimal) → Err e ≡ r → Err e ≡ positive r
-positive_err r e q = ap positive q
+-- a number that was read as it stands
+pub positive_map : (r : Result ℕ NotDecimal) (t : Result ℤ NotDecimal) → IfOk r (λ n. n < 10 ^ 15) → MatchResult r (λ n. t ≡ Ok (cast_signed w64 n)) (λ e. t ≡ Err e) → t ≡ positive r
+positive_map (Ok n) t h e = e ∙ ap Ok (signed_pos n h)
+positive_map (Err d) t h e = e
 
-pub minus_none : (s : List ℕ) → true ≡ eqb (length s) 0 → eqb (get_or s 0 0) 45 ≡ false
-minus_none [] e = refl
-minus_none (c ∷ cs) e = absurd (grind (arith, nat_tests))
-
-pub minus_some : (s : List ℕ) → true ≡ eqb (get_or s 0 0) 45 → 1 ≤ length s
-minus_some [] e = absurd (grind (arith, nat_tests))
-minus_some (c ∷ cs) e = omega arith
+-- whether a field begins with a minus
+pub minus_test : (s : List ℕ) → pointwise eqb (take 1 s) (45 ∷ []) ≡ eqb (get_or s 0 0) 45
+minus_test [] = refl
+minus_test (c ∷ cs) = and-true (eqb c 45)

@@ -1,7 +1,7 @@
 // Whole numbers read from the bytes of a field.
 #![tactic(auto)]
 
-ghost use Rattle.std.specs.Prelude.{◌≡◌, ◌-◌, true, false, ℤ, Ok, MatchResult, ◌==◌, slice_index};
+ghost use Rattle.std.specs.Prelude.{◌≡◌, ◌-◌, ◌^◌, ◌<◌, true, false, ℤ, Ok, MatchResult, IfOk};
 ghost use Rattle.std.specs.Char.{is_ascii_digit};
 ghost use Rattle.std.specs.Fmt.{signed_decimal};
 ghost use Rattle.faults.specs.declared.Why.TheVariants.{Form};
@@ -30,23 +30,27 @@ impl From<NotDecimal> for Why {
 fn is_shaped(digits: &[u8]) -> bool
     ensures { result ≡ shaped digits.now }
 {
-    !digits.is_empty() && digits.len() <= MOST_DIGITS && (digits[0] != b'0' || digits.len() == 1)
+    match digits {
+        [] => false,
+        [b'0', _, ..] => false,
+        _ => digits.len() <= MOST_DIGITS,
+    }
 }
 
 // The number that a digit stands for.
 fn read_digit(byte: u8) -> Result<u64, NotDecimal>
     ensures { MatchResult result (λ d. (is_ascii_digit byte ≡ true) × (d ≡ byte - 48)) (λ _. is_ascii_digit byte ≡ false) }
 {
-    if byte.is_ascii_digit() {
-        Ok(u64::from(byte - b'0'))
-    } else {
-        Err(NotDecimal)
-    }
+    char::from(byte)
+        .to_digit(10)
+        .map(u64::from)
+        .ok_or(NotDecimal)
 }
 
 // The number that digits write.
 fn read_natural(digits: &[u8]) -> Result<u64, NotDecimal>
-    ensures { result ≡ natural_of digits.now }
+    ensures value { result ≡ natural_of digits.now }
+    ensures few { IfOk result (λ n. n < 10 ^ 15) }
 {
     if !is_shaped(digits) {
         return Err(NotDecimal);
@@ -64,14 +68,8 @@ fn read_negative(digits: &[u8]) -> Result<i64, NotDecimal>
 {
     match read_natural(digits)? {
         0 => Err(NotDecimal),
-        n => Ok(-(n as i64)),
+        n => Ok(-n.cast_signed()),
     }
-}
-
-fn has_minus(field: &[u8]) -> bool
-    ensures { result ≡ (slice_index field.now 0 == 45) }
-{
-    !field.is_empty() && field[0] == b'-'
 }
 
 // The whole number that a field writes: base ten, at most fifteen digits, no plus, no leading zero, and a minus only before a number other than 0.
@@ -80,9 +78,8 @@ pub fn read_decimal(field: &[u8]) -> Result<i64, NotDecimal>
     ensures accepts { (z : ℤ) → FewDigits z → field.now ≡ signed_decimal z → result ≡ Ok z }
     ensures canonical { (z : ℤ) → result ≡ Ok z → (field.now ≡ signed_decimal z) × FewDigits z }
 {
-    if has_minus(field) {
-        return read_negative(&field[1..]);
+    match field.strip_prefix(b"-") {
+        Some(digits) => read_negative(digits),
+        None => read_natural(field).map(|n| n.cast_signed()),
     }
-    let n = read_natural(field)?;
-    Ok(n as i64)
 }

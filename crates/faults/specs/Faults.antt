@@ -1,6 +1,7 @@
 -- The number, the layer and the place of a fault.
-use Rattle.std.specs.Prelude.{ℕ, Ok, Err, Result}
+use Rattle.std.specs.Prelude.{ℕ, Some, None, Ok, Err, Option, Result}
 use Rattle.refusals.specs.Numbers.{number}
+use Rattle.refusals.specs.declared.Refusal.{Refusal}
 use Rattle.refusals.specs.declared.Refusal.TheVariants.{BufferShort}
 use Rattle.faults.specs.declared.Why.{Why}
 use Rattle.faults.specs.declared.Why.TheVariants.{Short, Form, Order, Value, Ending}
@@ -17,6 +18,14 @@ fault_number Form = 15
 fault_number Order = 16
 fault_number (Value e) = 17
 fault_number Ending = 18
+
+-- the refusal inside, where there is one
+abbrev pub refusal_of : Why → Option Refusal
+refusal_of Short = None
+refusal_of Form = None
+refusal_of Order = None
+refusal_of (Value e) = Some e
+refusal_of Ending = None
 
 -- the number of the refusal inside, and 0 where there is none
 abbrev pub inner_number : Why → ℕ

@@ -3,7 +3,7 @@
 
 ghost use Rattle.std.specs.Prelude.{◌≡◌, IsErrAnd, Ok, MatchResult};
 ghost use Rattle.faults.specs.declared.Why.TheVariants.{Value};
-ghost use Rattle.faults.specs.Faults.{fault_number, inner_number, layer_of, letter_of, in_line};
+ghost use Rattle.faults.specs.Faults.{fault_number, refusal_of, inner_number, layer_of, letter_of, in_line};
 
 use refusals::Refusal;
 
@@ -22,28 +22,28 @@ pub enum Why {
 }
 
 // The text that is read.
-#[derive(Clone, Copy)]
+#[derive(Clone, Copy, PartialEq, Eq, Debug)]
 pub enum Source {
     Hour,
     Posting,
 }
 
 // The part of the program that found the fault: the reader of texts, the book, or the posting.
-#[derive(Clone, Copy)]
+#[derive(Clone, Copy, PartialEq, Eq, Debug)]
 pub enum Layer {
     Text,
     Book,
     Posting,
 }
 
-// A fault at a field of a line, counted from 1; 0 for the line as a whole.
+// A fault at a field of a line, counted from 1; 0 for the line as a whole, as it is printed.
 #[derive(Clone, Copy, PartialEq, Eq, Debug)]
 pub struct Spot {
     pub why: Why,
     pub field: u64,
 }
 
-// A fault at a line of a text, counted from 1; 0 for the text as a whole.
+// A fault at a line of a text, counted from 1; 0 for the text as a whole, as it is printed.
 #[derive(Clone, Copy, PartialEq, Eq, Debug)]
 pub struct Fault {
     pub why: Why,
@@ -73,14 +73,21 @@ impl Why {
         }
     }
 
-    // The number of the refusal that a value fault carries, and 0 for any other fault.
+    // The refusal that a value fault carries.
+    pub fn refusal(self) -> Option<Refusal>
+        ensures { result ≡ refusal_of self }
+    {
+        match self {
+            Why::Value(refusal) => Some(refusal),
+            _ => None,
+        }
+    }
+
+    // The number of that refusal, printed as 0 where there is none.
     pub fn inner(self) -> u8
         ensures { result ≡ inner_number self }
     {
-        match self {
-            Why::Value(refusal) => refusal.number(),
-            _ => 0,
-        }
+        self.refusal().map_or(0, |refusal| refusal.number())
     }
 
     // Who found the fault in this text.
@@ -114,25 +121,19 @@ where
     Why: From<E>,
     ensures { MatchResult result (λ x. r ≡ Ok x) (λ s. (s.field ≡ field) × IsErrAnd r (λ e. bound-1.from_gives e s.why)) }
 {
-    match r {
-        Ok(x) => Ok(x),
-        Err(e) => {
-            let why = Why::from(e);
-            Err(Spot { why, field })
-        }
-    }
+    r.map_err(|e| Spot {
+        why: Why::from(e),
+        field,
+    })
 }
 
 // The line added to a fault within it.
 pub fn in_line<T>(line: u64, r: Result<T, Spot>) -> Result<T, Fault>
     ensures { result ≡ in_line line r }
 {
-    match r {
-        Ok(x) => Ok(x),
-        Err(e) => Err(Fault {
-            why: e.why,
-            line,
-            field: e.field,
-        }),
-    }
+    r.map_err(|spot| Fault {
+        why: spot.why,
+        line,
+        field: spot.field,
+    })
 }

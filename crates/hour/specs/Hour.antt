@@ -1,5 +1,7 @@
 -- The entries of an hour book, read and replaced one at a time.
 use Rattle.std.specs.Prelude.{◌≡◌, ℕ, false, List, [], ◌∷◌, replicate, ℤ, Some, None, Option, ◌≢◌, slice_index_or, slice_set}
+use Rattle.hour.specs.declared.records.Market.{Market}
+use Rattle.hour.specs.declared.records.Market.TheVariants.{DayAhead, RealTime}
 use Rattle.hour.specs.declared.records.Bus.{Bus}
 use Rattle.hour.specs.declared.records.Standing.{Standing}
 use Rattle.hour.specs.declared.records.Constraint.{Constraint}
@@ -23,6 +25,16 @@ no_standing = record { live = false; load = 0 }
 -- a bus whose fields are all 0
 abbrev pub no_bus : Bus
 no_bus = record { hub_bus = 0; zone = 0; day_ahead = no_standing; real_time = no_standing }
+
+-- what a bus is in a market
+abbrev pub standing_of : Market → Bus → Standing
+standing_of DayAhead b = b.day_ahead
+standing_of RealTime b = b.real_time
+
+-- the bus with another standing in a market
+abbrev pub with_standing : Market → Standing → Bus → Bus
+with_standing DayAhead s b = record { hub_bus = b.hub_bus; zone = b.zone; day_ahead = s; real_time = b.real_time }
+with_standing RealTime s b = record { hub_bus = b.hub_bus; zone = b.zone; day_ahead = b.day_ahead; real_time = s }
 
 -- the hour of a fresh book
 abbrev pub fresh : Hour

@@ -1,7 +1,7 @@
 // The calls on an hour book, as values. Arguments are wide, so that any number a caller has is granted or refused.
 use crate::records::Market;
 
-#[derive(Clone, Copy)]
+#[derive(Clone, Copy, PartialEq, Eq, Debug)]
 pub enum Call {
     Place {
         bus: i64,

@@ -11,28 +11,27 @@ mod tests {
 
     // A hub bus takes eight buses and no ninth; one of the eight can be placed again.
     #[test]
-    fn ninth_bus(rt: HostRuntime) -> Result<(), Fail> {
+    fn ninth_bus(rt: HostRuntime) {
         let mut book = Book::fresh();
         for bus in 0..8 {
-            assert!(rt; book.place(bus, 1, 0).is_ok());
+            assert_eq!(rt; book.place(bus, 1, 0), Ok(()));
         }
-        match book.place(8, 1, 0) {
-            Ok(()) => return Err(Fail::new("the ninth bus was taken")),
-            Err(refusal) => assert!(rt; refusal.number() == 4),
-        }
-        assert!(rt; book.place(7, 1, 2).is_ok());
-        Ok(())
+        assert_eq!(rt;
+            book.place(8, 1, 0).map_err(|refusal| refusal.number()),
+            Err(4)
+        );
+        assert_eq!(rt; book.place(7, 1, 2), Ok(()));
     }
 
     // A run that is replaced gives its seconds back.
     #[test]
     fn replaced_run(rt: HostRuntime) {
         let mut book = Book::fresh();
-        assert!(rt; book.enter_run(0, 300, 0, 0).is_ok());
-        assert!(rt; book.enter_run(1, 600, 0, 0).is_ok());
+        assert_eq!(rt; book.enter_run(0, 300, 0, 0), Ok(()));
+        assert_eq!(rt; book.enter_run(1, 600, 0, 0), Ok(()));
         assert!(rt; book.enter_run(1, 601, 0, 0).is_err());
-        assert!(rt; book.enter_run(0, 299, 0, 0).is_ok());
-        assert!(rt; book.total_seconds() == 899);
+        assert_eq!(rt; book.enter_run(0, 299, 0, 0), Ok(()));
+        assert_eq!(rt; book.total_seconds(), 899);
     }
 
     // Under a constraint a bus may be dead that is live in the base case, so its hub bus is counted anew.
@@ -65,13 +64,13 @@ mod tests {
             },
         ];
         let replayed = replay(rt.alloc(), &calls)?;
-        assert!(rt; replayed.answers.len() == 5);
+        assert_eq!(rt; replayed.answers.len(), 5);
         assert!(rt; replayed.answers[2].is_err());
-        assert!(rt; replayed.answers[4].is_ok());
+        assert_eq!(rt; replayed.answers[4], Ok(()));
         let book = replayed.book;
         let live = book.live_under(0).ok_or("constraint 0 is not posted")?;
-        assert!(rt; book.live_count(book.base_live(Market::DayAhead), 1) == 1);
-        assert!(rt; book.live_count(live, 1) == 0);
+        assert_eq!(rt; book.live_count(book.base_live(Market::DayAhead), 1), 1);
+        assert_eq!(rt; book.live_count(live, 1), 0);
         Ok(())
     }
 }

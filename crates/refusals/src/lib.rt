@@ -1,32 +1,35 @@
 // Why a call is refused, and the number that a user is given for it.
 #![tactic(auto)]
 
-ghost use Rattle.std.specs.Prelude.{◌≡◌};
+ghost use Rattle.std.specs.Prelude.{◌≡◌, Some};
 ghost use Rattle.refusals.specs.Numbers.{number};
 ghost use Rattle.refusals.specs.Words.{meaning};
+
+use std::error::Error;
+use std::fmt;
 
 // One case for each reason. Limits stand with the records that they bound.
 #[derive(Clone, Copy, PartialEq, Eq, Debug)]
 pub enum Refusal {
-    BusOutside,
-    HubBusOutside,
-    ZoneOutside,
-    HubBusFull,
-    LoadOutside,
-    ConstraintOutside,
-    ShadowPriceOutside,
-    NotPosted,
-    LambdaOutside,
-    RunOutside,
-    SecondsOutside,
-    AdderOutside,
-    NotEntered,
-    BufferShort,
-    NoLambda,
-    SecondsShort,
-    NoWeight,
-    PointOutside,
-    PostedOutside,
+    BusOutside = 1,
+    HubBusOutside = 2,
+    ZoneOutside = 3,
+    HubBusFull = 4,
+    LoadOutside = 5,
+    ConstraintOutside = 6,
+    ShadowPriceOutside = 7,
+    NotPosted = 8,
+    LambdaOutside = 9,
+    RunOutside = 10,
+    SecondsOutside = 11,
+    AdderOutside = 12,
+    NotEntered = 13,
+    BufferShort = 14,
+    NoLambda = 19,
+    SecondsShort = 20,
+    NoWeight = 21,
+    PointOutside = 22,
+    PostedOutside = 23,
 }
 
 impl Refusal {
@@ -35,33 +38,7 @@ impl Refusal {
         ensures value { result ≡ number self }
         ensures apart { (e : Refusal) → number e ≡ result → e ≡ self }
     {
-        self.code()
-    }
-
-    fn code(self) -> u8
-        ensures { result ≡ number self }
-    {
-        match self {
-            Refusal::BusOutside => 1,
-            Refusal::HubBusOutside => 2,
-            Refusal::ZoneOutside => 3,
-            Refusal::HubBusFull => 4,
-            Refusal::LoadOutside => 5,
-            Refusal::ConstraintOutside => 6,
-            Refusal::ShadowPriceOutside => 7,
-            Refusal::NotPosted => 8,
-            Refusal::LambdaOutside => 9,
-            Refusal::RunOutside => 10,
-            Refusal::SecondsOutside => 11,
-            Refusal::AdderOutside => 12,
-            Refusal::NotEntered => 13,
-            Refusal::BufferShort => 14,
-            Refusal::NoLambda => 19,
-            Refusal::SecondsShort => 20,
-            Refusal::NoWeight => 21,
-            Refusal::PointOutside => 22,
-            Refusal::PostedOutside => 23,
-        }
+        self as u8
     }
 
     // What the refusal means, for a person.
@@ -92,3 +69,14 @@ impl Refusal {
         }
     }
 }
+
+// Printed, a refusal is its meaning.
+impl fmt::Display for Refusal {
+    ghost output = { λ e. Some (meaning e) };
+
+    fn fmt<W: fmt::Write>(&self, f: &mut fmt::Formatter<W>) -> fmt::Result {
+        f.write_str(self.meaning())
+    }
+}
+
+impl Error for Refusal {}

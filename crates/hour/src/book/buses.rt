@@ -1,36 +1,45 @@
 // The calls that change one bus record: place, status and load.
-ghost use Rattle.std.specs.Prelude.{◌≡◌, ℕ, ◌<◌, ◌≤◌, true, slice_set};
+ghost use Rattle.std.specs.Prelude.{◌≡◌, ℕ, ◌<◌, ◌≤◌, true, Some, None, MatchResult, slice_set};
+ghost use Rattle.bounds.specs.Bounds.{up_to};
 ghost use Rattle.hour.specs.Sound.{FewPerHubBus, bus_sound, hub_bus_size};
-ghost use Rattle.hour.specs.Hour.{entries, with_bus, OnlyBus};
+ghost use Rattle.hour.specs.Hour.{entries, with_bus, with_standing, OnlyBus};
 ghost use Rattle.hour.specs.Steps.{Did, placed, other_buses, is_full, status_set, load_set, with_status, with_load};
 
 use crate::book::Book;
 use crate::limits::{LAST_BUS, LAST_HUB_BUS, LAST_ZONE, MOST_BUSES, MOST_LOAD};
-use crate::records::{Bus, Market};
+use crate::records::{Bus, Market, Standing};
 use bounds::up_to;
 use refusals::Refusal;
 
 impl Bus {
+    // The bus with this standing in a market.
+    fn with_standing(self, market: Market, standing: Standing) -> Bus
+        ensures { result ≡ with_standing market standing self }
+    {
+        match market {
+            Market::DayAhead => Bus {
+                day_ahead: standing,
+                ..self
+            },
+            Market::RealTime => Bus {
+                real_time: standing,
+                ..self
+            },
+        }
+    }
+
     fn with_status(self, market: Market, live: bool) -> Bus
         ensures { result ≡ with_status self market live }
     {
-        let mut bus = self;
-        match market {
-            Market::DayAhead => bus.day_ahead.live = live,
-            Market::RealTime => bus.real_time.live = live,
-        }
-        bus
+        let old = self.standing(market);
+        self.with_standing(market, Standing { live, ..old })
     }
 
     fn with_load(self, market: Market, load: u16) -> Bus
         ensures { result ≡ with_load self market load }
     {
-        let mut bus = self;
-        match market {
-            Market::DayAhead => bus.day_ahead.load = load,
-            Market::RealTime => bus.real_time.load = load,
-        }
-        bus
+        let old = self.standing(market);
+        self.with_standing(market, Standing { load, ..old })
     }
 }
 
@@ -42,20 +51,14 @@ impl Book {
         ensures value { entries self.new ≡ with_bus (entries self.old) bus new }
         ensures only { OnlyBus bus (entries self.old) (entries self.new) }
     {
-        self.buses[bus as usize] = new;
+        self.buses[usize::from(bus)] = new;
     }
 
     // How many buses belong to the hub bus, live or dead.
     fn hub_bus_size(&self, hub_bus: u8) -> usize
         ensures { result ≡ hub_bus_size hub_bus self.now.buses }
     {
-        let mut n: usize = 0;
-        for b in self.buses.iter() {
-            if b.hub_bus == hub_bus {
-                n += 1;
-            }
-        }
-        n
+        self.buses.iter().filter(|b| b.hub_bus == hub_bus).count()
     }
 
     // How many buses other than this one belong to the hub bus.
@@ -63,7 +66,7 @@ impl Book {
         ensures { result ≡ other_buses (entries self.now) bus hub_bus }
     {
         let all = self.hub_bus_size(hub_bus);
-        let own = self.buses[bus as usize].hub_bus;
+        let own = self.bus(bus).hub_bus;
         if own == hub_bus { all - 1 } else { all }
     }
 
@@ -78,13 +81,13 @@ impl Book {
     pub fn place(&mut self, bus: i64, hub_bus: i64, zone: i64) -> Result<(), Refusal>
         ensures { Did (placed (entries self.old) bus hub_bus zone) (entries self.old) (entries self.new) result }
     {
-        let b = up_to(bus, LAST_BUS, Refusal::BusOutside)? as u8;
-        let hub = up_to(hub_bus, LAST_HUB_BUS, Refusal::HubBusOutside)? as u8;
-        let area = up_to(zone, LAST_ZONE, Refusal::ZoneOutside)? as u8;
+        let b = byte_up_to(bus, LAST_BUS, Refusal::BusOutside)?;
+        let hub = byte_up_to(hub_bus, LAST_HUB_BUS, Refusal::HubBusOutside)?;
+        let area = byte_up_to(zone, LAST_ZONE, Refusal::ZoneOutside)?;
         if self.is_full(b, hub) {
             return Err(Refusal::HubBusFull);
         }
-        let old = self.buses[b as usize];
+        let old = self.bus(b);
         self.replace_bus(
             b,
             Bus {
@@ -100,8 +103,8 @@ impl Book {
     pub fn set_status(&mut self, bus: i64, market: Market, live: bool) -> Result<(), Refusal>
         ensures { Did (status_set (entries self.old) bus market live) (entries self.old) (entries self.new) result }
     {
-        let b = up_to(bus, LAST_BUS, Refusal::BusOutside)? as u8;
-        let new = self.buses[b as usize].with_status(market, live);
+        let b = byte_up_to(bus, LAST_BUS, Refusal::BusOutside)?;
+        let new = self.bus(b).with_status(market, live);
         self.replace_bus(b, new);
         Ok(())
     }
@@ -110,10 +113,19 @@ impl Book {
     pub fn set_load(&mut self, bus: i64, market: Market, load: i64) -> Result<(), Refusal>
         ensures { Did (load_set (entries self.old) bus market load) (entries self.old) (entries self.new) result }
     {
-        let b = up_to(bus, LAST_BUS, Refusal::BusOutside)? as u8;
+        let b = byte_up_to(bus, LAST_BUS, Refusal::BusOutside)?;
         let amount = up_to(load, MOST_LOAD, Refusal::LoadOutside)?;
-        let new = self.buses[b as usize].with_load(market, amount);
+        let new = self.bus(b).with_load(market, amount);
         self.replace_bus(b, new);
         Ok(())
     }
+}
+
+// The value as a byte from 0 to `last`, or the refusal.
+pub(super) fn byte_up_to(value: i64, last: u16, refusal: Refusal) -> Result<u8, Refusal>
+    requires { last < 256 }
+    ensures { MatchResult result (λ n. (up_to value last ≡ Some n) × (n ≤ last)) (λ e. (up_to value last ≡ None) × (e ≡ refusal)) }
+{
+    // What `up_to` grants is at most `last`, so the cast is proved to lose nothing.
+    up_to(value, last, refusal).map(|n| n as u8)
 }

@@ -5,6 +5,7 @@ ghost use Rattle.hour.specs.Hour.{entries, with_constraint, out_of};
 ghost use Rattle.hour.specs.Steps.{Did, lambda_set, posted, struck, outage_set};
 
 use crate::book::Book;
+use crate::book::buses::byte_up_to;
 use crate::limits::{LAST_BUS, LAST_CONSTRAINT, MOST_LAMBDA, MOST_SHADOW_PRICE};
 use crate::records::Constraint;
 use bounds::{is_within, up_to};
@@ -36,7 +37,7 @@ impl Book {
     pub fn post(&mut self, constraint: i64, shadow_price: i64) -> Result<(), Refusal>
         ensures { Did (posted (entries self.old) constraint shadow_price) (entries self.old) (entries self.new) result }
     {
-        let i = up_to(constraint, LAST_CONSTRAINT, Refusal::ConstraintOutside)? as usize;
+        let i = usize::from(up_to(constraint, LAST_CONSTRAINT, Refusal::ConstraintOutside)?);
         if !is_within(shadow_price, MOST_SHADOW_PRICE) {
             return Err(Refusal::ShadowPriceOutside);
         }
@@ -49,7 +50,7 @@ impl Book {
     pub fn strike(&mut self, constraint: i64) -> Result<(), Refusal>
         ensures { Did (struck (entries self.old) constraint) (entries self.old) (entries self.new) result }
     {
-        let i = up_to(constraint, LAST_CONSTRAINT, Refusal::ConstraintOutside)? as usize;
+        let i = usize::from(up_to(constraint, LAST_CONSTRAINT, Refusal::ConstraintOutside)?);
         let _ = self.constraints[i].ok_or(Refusal::NotPosted)?;
         self.replace_constraint(i, None);
         Ok(())
@@ -59,17 +60,11 @@ impl Book {
     pub fn set_outage(&mut self, constraint: i64, bus: i64, out: bool) -> Result<(), Refusal>
         ensures { Did (outage_set (entries self.old) constraint bus out) (entries self.old) (entries self.new) result }
     {
-        let i = up_to(constraint, LAST_CONSTRAINT, Refusal::ConstraintOutside)? as usize;
-        let b = up_to(bus, LAST_BUS, Refusal::BusOutside)? as u8;
+        let i = usize::from(up_to(constraint, LAST_CONSTRAINT, Refusal::ConstraintOutside)?);
+        let b = byte_up_to(bus, LAST_BUS, Refusal::BusOutside)?;
         let old = self.constraints[i].ok_or(Refusal::NotPosted)?;
         let marks = marked(old.out, b, out);
-        self.replace_constraint(
-            i,
-            Some(Constraint {
-                shadow_price: old.shadow_price,
-                out: marks,
-            }),
-        );
+        self.replace_constraint(i, Some(Constraint { out: marks, ..old }));
         Ok(())
     }
 }
@@ -78,8 +73,10 @@ impl Book {
 pub fn out_of(constraint: Option<Constraint>) -> BusSet
     ensures { result ≡ out_of constraint }
 {
-    match constraint {
-        Some(c) => c.out,
-        None => [0; 4],
-    }
+    constraint.map_or(
+        [0; 4],
+        |posted| -> BusSet
+            ensures { result ≡ posted.out }
+        { posted.out },
+    )
 }

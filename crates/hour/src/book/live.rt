@@ -1,48 +1,53 @@
 // The live buses of a book, as sets, and how many of them a hub bus has.
-ghost use Rattle.std.specs.Prelude.{◌≡◌, ℕ, ◌<◌, ◌≤◌, true, is_some, None, MatchOption};
+ghost use Rattle.std.specs.Prelude.{◌≡◌, ℕ, ◌<◌, ◌≤◌, Bool, true, is_some, None, MatchOption};
+ghost use Rattle.std.specs.Fn.{FnReturnsAt};
 ghost use Rattle.bus_set.specs.Sets.{member, SetOf};
-ghost use Rattle.hour.specs.Hour.{entries, constraint_at};
+ghost use Rattle.hour.specs.Hour.{entries, bus_at, constraint_at};
+ghost use Rattle.hour.specs.declared.records.Bus.{Bus};
 ghost use Rattle.hour.specs.Live.{is_live, base_live, live_under, belongs, live_count, Divides};
 
 use crate::book::Book;
 use crate::records::{Bus, Market};
-use bus_set::{BusSet, both, count, marked, without};
+use bus_set::{BusSet, both, count, empty, marked, without};
 
 impl Bus {
     // Whether the bus is live in a market.
     pub fn is_live(&self, market: Market) -> bool
         ensures { result ≡ is_live market self.now }
     {
-        match market {
-            Market::DayAhead => self.day_ahead.live,
-            Market::RealTime => self.real_time.live,
-        }
+        self.standing(market).live
     }
 }
 
 impl Book {
+    // The buses whose records pass the test.
+    fn set_of<F>(&self, test: F) -> BusSet
+    where
+        F: Fn(&Bus) -> bool,
+        requires { F.IsAlwaysCallable test }
+        ensures { (p : Bus → Bool) → ((x : Bus) (r : Bool) → FnReturnsAt F.Fn test x r → r ≡ p x) → SetOf (λ b. p (bus_at (entries self.now) b)) result }
+    {
+        let mut set = empty();
+        for (i, bus) in self.buses.iter().enumerate() {
+            // A place of the table is below 256, so the cast is proved to lose nothing.
+            let next = marked(set, i as u8, test(bus));
+            set = next;
+        }
+        set
+    }
+
     // The live buses of a market's base case.
     pub fn base_live(&self, market: Market) -> BusSet
         ensures { SetOf (base_live (entries self.now) market) result }
     {
-        let mut set = [0u64; 4];
-        for b in 0..256usize {
-            let next = marked(set, b as u8, self.buses[b].is_live(market));
-            set = next;
-        }
-        set
+        self.set_of(|bus| bus.is_live(market))
     }
 
     // The buses of a hub bus, live or dead.
     pub fn members(&self, hub_bus: u8) -> BusSet
         ensures { SetOf (belongs (entries self.now) hub_bus) result }
     {
-        let mut set = [0u64; 4];
-        for b in 0..256usize {
-            let next = marked(set, b as u8, self.buses[b].hub_bus == hub_bus);
-            set = next;
-        }
-        set
+        self.set_of(|bus| bus.hub_bus == hub_bus)
     }
 
     // The live buses under a posted constraint: live in the day-ahead base case, and with no outage mark.

@@ -14,7 +14,7 @@ impl Book {
         ensures value { result ≡ bus_at (entries self.now) bus }
         ensures sound { bus_sound result ≡ true }
     {
-        self.buses[bus as usize]
+        self.buses[usize::from(bus)]
     }
 
     // Lambda, in fine units, where it is set.
@@ -30,11 +30,10 @@ impl Book {
         ensures value { result ≡ constraint_at (entries self.now) constraint }
         ensures sound { when_some constraint_sound result ≡ true }
     {
-        if constraint < 32 {
-            self.constraints[constraint as usize]
-        } else {
-            None
-        }
+        self.constraints
+            .get(usize::from(constraint))
+            .copied()
+            .flatten()
     }
 
     // A run, where it is entered; none past the last.
@@ -42,11 +41,7 @@ impl Book {
         ensures value { result ≡ run_at (entries self.now) run }
         ensures sound { when_some run_sound result ≡ true }
     {
-        if run < 16 {
-            self.runs[run as usize]
-        } else {
-            None
-        }
+        self.runs.get(usize::from(run)).copied().flatten()
     }
 
     // The records of all buses, from bus 0 on.

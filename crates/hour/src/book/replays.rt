@@ -7,7 +7,7 @@ ghost use Rattle.hour.specs.Laws.{Laws};
 
 use crate::book::Book;
 use crate::calls::Call;
-use crate::records::{Bus, Standing};
+use crate::records::Bus;
 use refusals::Refusal;
 use std::alloc::{AllocError, Global};
 
@@ -23,18 +23,8 @@ impl Book {
     pub fn fresh() -> Self
         ensures { entries result ≡ fresh }
     {
-        let standing = Standing {
-            live: false,
-            load: 0,
-        };
-        let bus = Bus {
-            hub_bus: 0,
-            zone: 0,
-            day_ahead: standing,
-            real_time: standing,
-        };
         Book {
-            buses: [bus; 256],
+            buses: [Bus::default(); 256],
             lambda: None,
             constraints: [None; 32],
             runs: [None; 16],

@@ -25,11 +25,7 @@ impl Book {
     pub fn total_seconds(&self) -> u16
         ensures { result ≡ total_seconds (entries self.now).runs }
     {
-        let mut total: u16 = 0;
-        for run in self.runs.iter() {
-            total += seconds_of(*run);
-        }
-        total
+        self.runs.iter().map(|run| seconds_of(*run)).sum()
     }
 
     // The seconds of the entered runs other than run i.
@@ -51,7 +47,7 @@ impl Book {
     ) -> Result<(), Refusal>
         ensures { Did (run_entered (entries self.old) run seconds reserve_adder reliability_adder) (entries self.old) (entries self.new) result }
     {
-        let i = up_to(run, LAST_RUN, Refusal::RunOutside)? as usize;
+        let i = usize::from(up_to(run, LAST_RUN, Refusal::RunOutside)?);
         if seconds < 1 {
             return Err(Refusal::SecondsOutside);
         }
@@ -63,7 +59,14 @@ impl Book {
         }
         let left = MOST_SECONDS - self.other_seconds(i);
         let length = up_to(seconds, left, Refusal::SecondsOutside)?;
-        self.replace_run(i, Some(entered(length, reserve_adder, reliability_adder)));
+        self.replace_run(
+            i,
+            Some(Run {
+                seconds: length,
+                reserve_adder,
+                reliability_adder,
+            }),
+        );
         Ok(())
     }
 
@@ -71,20 +74,10 @@ impl Book {
     pub fn drop_run(&mut self, run: i64) -> Result<(), Refusal>
         ensures { Did (run_dropped (entries self.old) run) (entries self.old) (entries self.new) result }
     {
-        let i = up_to(run, LAST_RUN, Refusal::RunOutside)? as usize;
+        let i = usize::from(up_to(run, LAST_RUN, Refusal::RunOutside)?);
         let _ = self.runs[i].ok_or(Refusal::NotEntered)?;
         self.replace_run(i, None);
         Ok(())
-    }
-}
-
-fn entered(seconds: u16, reserve: i64, reliability: i64) -> Run
-    ensures { result ≡ entered_run seconds reserve reliability }
-{
-    Run {
-        seconds,
-        reserve_adder: reserve,
-        reliability_adder: reliability,
     }
 }
 
@@ -92,8 +85,5 @@ fn entered(seconds: u16, reserve: i64, reliability: i64) -> Run
 fn seconds_of(run: Option<Run>) -> u16
     ensures { result ≡ seconds_of run }
 {
-    match run {
-        Some(r) => r.seconds,
-        None => 0,
-    }
+    run.map_or(0, |run| run.seconds)
 }

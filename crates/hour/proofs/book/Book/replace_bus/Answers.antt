@@ -1,33 +1,13 @@
-use Rattle.std.proofs.Common.{refl, ◌∙◌, length-set}
-use Rattle.std.proofs.lemmas.List.{get_or-set_other}
+use Rattle.std.proofs.Common.{◌∙◌, length-set}
 use Rattle.hour.specs.Sound.{bus_sound}
-use Rattle.hour.specs.Hour.{no_bus}
 use Rattle.hour.proofs.Tables.{all_by_set}
 use Rattle.hour.proofs.book.Book.replace_bus.Goals as goal
 
-pub invariant_of-self : goal.invariant_of-self
-invariant_of-self c =
-    let b = c.args.self.now in
-    record {
-      size = length-set b.buses c.args.bus c.args.new ∙ b.size;
-      columns = b.columns;
-      few = c.requires.few;
-      sound = all_by_set bus_sound b.buses c.args.bus c.args.new c.requires.sound b.sound;
-      price = b.price;
-      posted = b.posted;
-      entered = b.entered;
-      seconds = b.seconds;
-    }
+pub invariant_of-self-clause-size : goal.invariant_of-self-clause-size
+invariant_of-self-clause-size c = let b = c.args.self.now in length-set b.buses c.from.result c.args.new ∙ b.size
 
-pub returns : goal.returns
-returns c =
-    let b = c.args.self.now in
-    record {
-      value = refl;
-      only = record {
-        others = λ k other. get_or-set_other b.buses c.args.bus k c.args.new no_bus other;
-        lambda = refl;
-        constraints = refl;
-        runs = refl;
-      };
-    }
+pub invariant_of-self-clause-few : goal.invariant_of-self-clause-few
+invariant_of-self-clause-few c = rw c.from.ensures c.requires.few
+
+pub invariant_of-self-clause-sound : goal.invariant_of-self-clause-sound
+invariant_of-self-clause-sound c = let b = c.args.self.now in all_by_set bus_sound b.buses c.from.result c.args.new c.requires.sound b.sound

@@ -1,22 +1,15 @@
-use Rattle.std.proofs.Common.{◌≡◌, ◌<◌, true, length, get_or, sym, ap, ◌∙◌, subst, arith}
-use Rattle.hour.specs.Sound.{bus_sound}
+use Rattle.std.proofs.Common.{◌<◌, length, ap, ◌∙◌, arith}
 use Rattle.hour.specs.Hour.{no_bus}
 use Rattle.hour.specs.declared.records.Bus.{Bus}
-use Rattle.hour.proofs.Tables.{few_kept, load_sound, load_hub, all_by_get_d}
+use Rattle.hour.proofs.Tables.{few_kept, load_hub}
 use Rattle.hour.proofs.book.Book.set_load.Goals as goal
 
-pub replace_bus-requires : goal.replace_bus-requires
-replace_bus-requires c =
+pub replace_bus-requires-clause-few : goal.replace_bus-requires-clause-few
+replace_bus-requires-clause-few c =
     let book = c.args.self.now in
     let size = book.size in
-    let b = c.in_ok-b.field-0 in
-    let pb = c.in_ok-b.ensures in
+    let b = c.in_ok-b.b in
+    let low = c.in_ok-b.ensures in
     let lt : b < length book.buses = omega arith in
-    let old = get_or book.buses b no_bus in
-    let v = c.in_ok-amount.amount in
-    let e = c.with_load-new.ensures in
-    let sound = load_sound old c.args.market v c.in_ok-amount.ensures.1 (all_by_get_d bus_sound book.buses b no_bus lt book.sound) in
-    record {
-      sound = subst (λ (x : Bus). bus_sound x ≡ true) (sym e) sound;
-      few = few_kept book.buses b c.with_load-new.result no_bus lt book.few (ap (λ (x : Bus). x.hub_bus) e ∙ load_hub old c.args.market v);
-    }
+    let hub = λ (x : Bus). x.hub_bus in
+    few_kept book.buses b c.with_load-new.result no_bus lt book.few (ap hub c.with_load-new.ensures ∙ load_hub c.bus.result c.args.market c.in_ok-amount.amount ∙ ap hub c.bus.ensures.value)
