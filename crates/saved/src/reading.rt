@@ -50,7 +50,7 @@ fn read_lines(text: &[u8]) -> Result<Book, Fault>
     ensures { MatchResult result (λ b. reading text.now ≡ Ok (entries b)) (λ e. reading text.now ≡ Err e) }
 {
     let mut book = Book::fresh();
-    let mut stage = Stage::Start;
+    let mut stage = Stage::default();
     let mut rest = text;
     let mut line = 1u64;
     while !rest.is_empty() {

@@ -9,13 +9,13 @@ ghost use Rattle.saved_rows.specs.Entering.{enter, Enters, refused_at, bus_given
 
 use crate::row::{BusRow, Row};
 use crate::stage::Stage;
+use bounds::{is_within, up_to};
 use faults::{Spot, Why, at};
 use hour::book::Book;
 use hour::limits::{
     LAST_BUS, LAST_CONSTRAINT, LAST_HUB_BUS, LAST_RUN, LAST_ZONE, MOST_ADDER, MOST_LOAD,
 };
 use hour::records::Market;
-use bounds::{is_within, up_to};
 use refusals::Refusal;
 
 // The value of a field as a number from 0 to `last`, or the refusal at that field.

@@ -4,7 +4,6 @@ use Rattle.std.proofs.lemmas.Option.{MatchOption-at_some, MatchOption-at_none}
 use Rattle.std.proofs.lemmas.Bool.{cond-true, cond-false}
 use Rattle.cuts.specs.Cuts.{split, after}
 use Rattle.hour.specs.Hour.{entries}
-use Rattle.saved_rows.specs.declared.stage.Stage.TheVariants as stage
 use Rattle.saved_rows.specs.Running.{place}
 use Rattle.saved.specs.Texts.{line_end}
 use Rattle.saved.specs.Reading.{read_from}
@@ -12,7 +11,7 @@ use Rattle.saved.proofs.Turns.{at_done, on_err, on_row, after_err, after_ok, rea
 use Rattle.saved.proofs.reading.read_lines.Goals as goal
 
 pub loop-rest-init : goal.loop-rest-init
-loop-rest-init c = (ap (λ h. read_from (place stage.Start h) 1 (split line_end c.args.text.now)) c.fresh-book.ensures, omega arith, omega arith)
+loop-rest-init c = ((λ i. read_from (place (record { last = c.default-stage.ensures i }) (c.fresh-book.ensures i)) 1 (split line_end c.args.text.now)), omega arith, omega arith)
 
 pub returns-then-is_done : goal.returns-then-is_done
 returns-then-is_done c =
