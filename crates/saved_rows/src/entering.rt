@@ -109,29 +109,21 @@ impl Row {
                     book.enter_run(run, seconds, reserve_adder, reliability_adder),
                 )
             }
-            Row::End { count } => if u64::try_from(count) == Ok(before) {
-                Ok(())
-            } else {
-                Err(Spot {
-                    why: Why::Ending,
-                    field: 0,
-                })
-            }
+            Row::End { count } if u64::try_from(count) == Ok(before) => Ok(()),
+            Row::End { .. } => Err(Spot {
+                why: Why::Ending,
+                field: 0,
+            }),
         }
     }
 }
 
 // Takes the next line of a text that has `before` lines before it: its order is looked at first, and then its values.
 // The book stays as it was where the line is refused.
+#[tactic(auto, using(crate::proofs::Trip::laws))]
 pub fn take(book: &mut Book, stage: Stage, before: u64, row: Row) -> Result<Stage, Spot>
     ensures value { Takes (step (place stage (entries book.old)) before row) (entries book.old) (entries book.new) result }
     ensures laws { Laws }
-{
-    take_in_order(book, stage, before, row)
-}
-
-fn take_in_order(book: &mut Book, stage: Stage, before: u64, row: Row) -> Result<Stage, Spot>
-    ensures { Takes (step (place stage (entries book.old)) before row) (entries book.old) (entries book.new) result }
 {
     let after = stage.next(row)?;
     row.enter(book, before)?;

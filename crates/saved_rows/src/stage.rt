@@ -55,18 +55,14 @@ impl Stage {
     pub fn next(self, row: Row) -> Result<Stage, Spot>
         ensures { result ≡ next self row }
     {
-        if row.is_blank() {
-            return Err(out_of_order());
-        }
-        self.after(row.kind()).ok_or(out_of_order())
-    }
-}
-
-fn out_of_order() -> Spot
-    ensures { result ≡ misplaced }
-{
-    Spot {
-        why: Why::Order,
-        field: 0,
+        let next = if row.is_blank() {
+            None
+        } else {
+            self.after(row.kind())
+        };
+        next.ok_or(Spot {
+            why: Why::Order,
+            field: 0,
+        })
     }
 }
