@@ -45,8 +45,8 @@ fn without_end(line: u64) -> Fault
     }
 }
 
-// The lines of a text taken one after the other.
-fn read_lines(text: &[u8]) -> Result<Book, Fault>
+// The book that a text writes, or the first fault of the text.
+fn read_text(text: &[u8]) -> Result<Book, Fault>
     ensures { MatchResult result (λ b. reading text.now ≡ Ok (entries b)) (λ e. reading text.now ≡ Err e) }
 {
     let mut book = Book::fresh();
@@ -72,15 +72,8 @@ fn read_lines(text: &[u8]) -> Result<Book, Fault>
     Ok(book)
 }
 
-// The book that a text writes, or the first fault of the text.
-fn read_text(text: &[u8]) -> Result<Book, Fault>
-    ensures value { MatchResult result (λ b. reading text.now ≡ Ok (entries b)) (λ e. reading text.now ≡ Err e) }
-    ensures laws { Laws }
-{
-    read_lines(text)
-}
-
 // Replaces the book whole by the one that the text writes. A text that is refused changes nothing.
+#[tactic(auto, using(crate::proofs::Trip::laws))]
 pub fn resume(book: &mut Book, text: &[u8]) -> Result<(), Fault>
     ensures hour { Resumed (reading text.now) (entries book.old) (entries book.new) result }
     ensures laws { Laws }

@@ -1,29 +1,27 @@
-use Rattle.std.proofs.Common.{refl, arith}
-use Rattle.saved.specs.Lines.{bus_of, lambda_of, constraint_of, outage_of, run_of, end_of}
-use Rattle.saved.proofs.Letters.{of_letter, no_letter, other_letter}
+use Rattle.std.proofs.Common.{rules}
+use Rattle.saved_rows.specs.declared.row.Row.TheVariants as row
 use Rattle.saved.proofs.line.read_line.Goals as goal
 
-pub returns-in-B : goal.returns-in-B
-returns-in-B c = of_letter _ _ _ c.of.ensures 66 c.in-Some.letter bus_of c.read_bus.result c.in-Some.ensures c.in-B.is refl c.read_bus.ensures
+pub returns-in_err-lambda-in-L : goal.returns-in_err-lambda-in-L
+returns-in_err-lambda-in-L c = let r = c.in_err-lambda-in-L.ensures 76 row.Lambda in search rules
 
-pub returns-in-L : goal.returns-in-L
-returns-in-L c = of_letter _ _ _ c.of.ensures 76 c.in-Some.letter lambda_of c.read_lambda.result c.in-Some.ensures c.in-L.is refl c.read_lambda.ensures
+pub returns-in_ok-lambda-in-L : goal.returns-in_ok-lambda-in-L
+returns-in_ok-lambda-in-L c = let r = c.in_ok-lambda-in-L.ensures 76 row.Lambda in search rules
 
-pub returns-in-C : goal.returns-in-C
-returns-in-C c = of_letter _ _ _ c.of.ensures 67 c.in-Some.letter constraint_of c.read_constraint.result c.in-Some.ensures c.in-C.is refl c.read_constraint.ensures
+pub returns-in_err-constraint-in-C : goal.returns-in_err-constraint-in-C
+returns-in_err-constraint-in-C c = let r = c.in_err-constraint-in-C.ensures 67 row.Constraint in search rules
 
-pub returns-in-O : goal.returns-in-O
-returns-in-O c = of_letter _ _ _ c.of.ensures 79 c.in-Some.letter outage_of c.read_outage.result c.in-Some.ensures c.in-O.is refl c.read_outage.ensures
+pub returns-in_ok-constraint-in-C : goal.returns-in_ok-constraint-in-C
+returns-in_ok-constraint-in-C c = let r = c.in_ok-constraint-in-C.ensures 67 row.Constraint in search rules
 
-pub returns-in-R : goal.returns-in-R
-returns-in-R c = of_letter _ _ _ c.of.ensures 82 c.in-Some.letter run_of c.read_run.result c.in-Some.ensures c.in-R.is refl c.read_run.ensures
+pub returns-in_err-constraint-in-O : goal.returns-in_err-constraint-in-O
+returns-in_err-constraint-in-O c = let r = c.in_err-constraint-in-O.ensures 79 row.Outage in search rules
 
-pub returns-in-Z : goal.returns-in-Z
-returns-in-Z c = of_letter _ _ _ c.of.ensures 90 c.in-Some.letter end_of c.read_end.result c.in-Some.ensures c.in-Z.is refl c.read_end.ensures
+pub returns-in_ok-constraint-in-O : goal.returns-in_ok-constraint-in-O
+returns-in_ok-constraint-in-O c = let r = c.in_ok-constraint-in-O.ensures 79 row.Outage in search rules
 
-pub returns-in_default : goal.returns-in_default
-returns-in_default c = no_letter _ _ _ c.of.ensures _ c.in_default.ensures c.malformed.ensures
+pub returns-in_err-count-in-Z : goal.returns-in_err-count-in-Z
+returns-in_err-count-in-Z c = let r = c.in_err-count-in-Z.ensures 90 row.End in search rules
 
-pub returns-in_default-letter : goal.returns-in_default-letter
-returns-in_default-letter c =
-    other_letter _ _ _ c.of.ensures c.in-Some.letter _ c.in-Some.ensures (λ q. omega arith) (λ q. omega arith) (λ q. omega arith) (λ q. omega arith) (λ q. omega arith) (λ q. omega arith) c.malformed-in_default-letter.ensures
+pub returns-in_ok-count-in-Z : goal.returns-in_ok-count-in-Z
+returns-in_ok-count-in-Z c = let r = c.in_ok-count-in-Z.ensures 90 row.End in search rules
