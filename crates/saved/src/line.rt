@@ -122,37 +122,6 @@ impl<'a> BusLine<'a> {
     }
 }
 
-// The line that a part of the text writes.
-fn read_line<'a>(line: &'a [u8]) -> Result<Line<'a>, Spot>
-    ensures { ReadLine pieces row_of (split comma line.now) result }
-{
-    let (first, fields) = Fields::of(line);
-    match read_letter(first).ok_or(malformed(1))? {
-        'B' => read_bus(fields),
-        'L' => {
-            let lambda = read_number(fields)?;
-            Ok(Line::Lambda { lambda })
-        }
-        'C' => {
-            let (constraint, shadow_price) = read_pair(fields)?;
-            Ok(Line::Constraint {
-                constraint,
-                shadow_price,
-            })
-        }
-        'O' => {
-            let (constraint, bus) = read_pair(fields)?;
-            Ok(Line::Outage { constraint, bus })
-        }
-        'R' => read_run(fields),
-        'Z' => {
-            let count = read_number(fields)?;
-            Ok(Line::End { count })
-        }
-        _ => Err(malformed(1)),
-    }
-}
-
 impl<'a> Line<'a> {
     // The line that a part of the text writes, or its first wrong, missing or surplus field.
     #[tactic(auto, using(crate::proofs::Forms::read_located))]
@@ -160,7 +129,31 @@ impl<'a> Line<'a> {
         ensures value { ReadLine pieces row_of (split comma line.now) result }
         ensures place { Located (wrong_field (split comma line.now)) result }
     {
-        read_line(line)
+        let (first, fields) = Fields::of(line);
+        match read_letter(first).ok_or(malformed(1))? {
+            'B' => read_bus(fields),
+            'L' => {
+                let lambda = read_number(fields)?;
+                Ok(Line::Lambda { lambda })
+            }
+            'C' => {
+                let (constraint, shadow_price) = read_pair(fields)?;
+                Ok(Line::Constraint {
+                    constraint,
+                    shadow_price,
+                })
+            }
+            'O' => {
+                let (constraint, bus) = read_pair(fields)?;
+                Ok(Line::Outage { constraint, bus })
+            }
+            'R' => read_run(fields),
+            'Z' => {
+                let count = read_number(fields)?;
+                Ok(Line::End { count })
+            }
+            _ => Err(malformed(1)),
+        }
     }
 
     // The numbers of its fields.

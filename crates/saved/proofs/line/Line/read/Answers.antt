@@ -1,6 +1,6 @@
 use Rattle.std.proofs.Common.{rules}
 use Rattle.saved_rows.specs.declared.row.Row.TheVariants as row
-use Rattle.saved.proofs.line.read_line.Goals as goal
+use Rattle.saved.proofs.line.Line.read.Goals as goal
 
 pub returns-in_err-lambda-in-L : goal.returns-in_err-lambda-in-L
 returns-in_err-lambda-in-L c = let r = c.in_err-lambda-in-L.ensures 76 row.Lambda in search rules
