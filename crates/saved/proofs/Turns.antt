@@ -1,5 +1,6 @@
 -- One turn of the reader.
-use Rattle.std.proofs.Common.{◌≡◌, ℕ, suc, ◌+◌, ◌-◌, ◌<◌, true, false, cond, eqb, List, [], ◌∷◌, length, Some, None, Ok, Err, Option, Result, sym, refl, ap, ◌∙◌, subst, ⊎_elim, arith}
+use Rattle.std.proofs.Common.{◌≡◌, ℕ, suc, ◌+◌, ◌-◌, ◌<◌, true, false, cond, eqb, List, [], ◌∷◌, length, Some, None, Ok, Err, Option, Result, sym, refl, ap, ◌∙◌, subst, ⊎_elim, arith, Bor, MatchOption}
+use Rattle.std.specs.Option.{ok_or}
 use Rattle.std.proofs.lemmas.Bool.Decides.{nat_tests}
 use Rattle.std.proofs.lemmas.Bool.{cond-true, cond-false, cases_Bool, eqb-true}
 use Rattle.faults.specs.declared.Spot.{Spot}
@@ -62,6 +63,15 @@ after_length (c ∷ cs) t e = ⊎_elim
     (λ (d : eqb c line_end ≡ true). let z : Some cs ≡ Some t = sym (cond-true _ _ _ d) ∙ e in let q : cs ≡ t = cc in omega (arith, ap length q))
     (λ (d : eqb c line_end ≡ false). omega (arith, after_length cs t (sym (cond-false _ _ _ d) ∙ e)))
     (cases_Bool (eqb c line_end))
+
+-- what a cut leaves, as the fault of a missing line end takes it
+pub ended_at : (s : List ℕ) (o : Option (Bor (List ℕ))) (e : Fault) (t : Bor (List ℕ)) → Ok t ≡ ok_or o e → MatchOption o (after line_end s ≡ None) (λ u. after line_end s ≡ Some u.now) → after line_end s ≡ Some t.now
+ended_at s None e t k h = let z : ◌≡◌ {A = ℕ} 0 1 = cc in absurd (omega arith)
+ended_at s (Some u) e t k h = let z : u ≡ t = cc in h ∙ ap (λ (v : Bor (List ℕ)). Some v.now) z
+
+pub unended_at : (s : List ℕ) (o : Option (Bor (List ℕ))) (e f : Fault) → Err f ≡ ok_or o e → MatchOption o (after line_end s ≡ None) (λ u. after line_end s ≡ Some u.now) → (after line_end s ≡ None) × (f ≡ e)
+unended_at s None e f k h = (h, cc)
+unended_at s (Some u) e f k h = let z : ◌≡◌ {A = ℕ} 0 1 = cc in absurd (omega arith)
 
 -- the same from what the code knows of a turn
 module _ (p : Place) (n : ℕ) (s : List ℕ) (some : false ≡ eqb (length s) 0) where

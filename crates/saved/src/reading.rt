@@ -1,12 +1,12 @@
 // The book that a saved text writes.
 ghost use Rattle.std.specs.Prelude.{◌≡◌, Ok, Err, MatchResult};
+ghost use Rattle.faults.specs.Faults.{fault};
 ghost use Rattle.cuts.specs.Cuts.{split};
 ghost use Rattle.cuts.specs.Fields.{comma};
 ghost use Rattle.hour.specs.Hour.{entries};
-ghost use Rattle.saved_rows.specs.Running.{misended};
 ghost use Rattle.saved.specs.Laws.{Laws, Resumed};
 ghost use Rattle.saved.specs.Lines.{row_of};
-ghost use Rattle.saved.specs.Reading.{reading, unended};
+ghost use Rattle.saved.specs.Reading.{reading};
 
 use crate::line::Line;
 use cuts::pieces::cut;
@@ -23,23 +23,12 @@ fn read_row(line: &[u8]) -> Result<Row, Spot>
     Line::read(line)?.row()
 }
 
-// The last line is missing, or followed by more.
-fn ending(line: u64) -> Fault
-    ensures { result ≡ misended line }
+// A fault of a line as a whole.
+fn line_fault(why: Why, line: u64) -> Fault
+    ensures { result ≡ fault why line 0 }
 {
     Fault {
-        why: Why::Ending,
-        line,
-        field: 0,
-    }
-}
-
-// The line has no end.
-fn without_end(line: u64) -> Fault
-    ensures { result ≡ unended line }
-{
-    Fault {
-        why: Why::Form,
+        why,
         line,
         field: 0,
     }
@@ -55,21 +44,19 @@ fn read_text(text: &[u8]) -> Result<Book, Fault>
     let mut line = 1u64;
     while !rest.is_empty() {
         if stage.is_done() {
-            return Err(ending(line));
+            return Err(line_fault(Why::Ending, line));
         }
         let (piece, after) = cut(rest, b'\n');
         let row = in_line(line, read_row(piece))?;
-        let Some(next) = after else {
-            return Err(without_end(line));
-        };
+        rest = after.ok_or(line_fault(Why::Form, line))?;
         stage = in_line(line, take(&mut book, stage, line - 1, row))?;
-        rest = next;
         line += 1;
     }
-    if !stage.is_done() {
-        return Err(ending(line));
+    if stage.is_done() {
+        Ok(book)
+    } else {
+        Err(line_fault(Why::Ending, line))
     }
-    Ok(book)
 }
 
 // Replaces the book whole by the one that the text writes. A text that is refused changes nothing.
