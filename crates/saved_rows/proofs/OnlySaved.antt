@@ -1,7 +1,7 @@
 -- Lines that are taken are the lines of the hour that they make: each is one more line of the hour so far.
 use Rattle.std.proofs.Common.{◌≡◌, ℕ, suc, ◌+◌, ◌-◌, ◌/◌, ◌<◌, ◌≤◌, Bool, true, false, cond, not, eqb, List, [], ◌∷◌, ◌++◌, length, get_or, replicate, ℤ, pos, negsuc, is_ok, Some, None, Ok, Err, Option, Result, sym, refl, ap, ◌∙◌, subst, append_assoc, append-nil, arith, length-set}
 use lib.Signed.{lt_z, le_z}
-use Rattle.std.proofs.lemmas.List.{get_or-set_same, length_push}
+use Rattle.std.proofs.lemmas.List.{get_or-set_same, length_push, length-replicate}
 use Rattle.std.proofs.lemmas.Bool.{cond-true, cond-false, ltb-true, eqb-true, eq-eqb, ne_eqb, and_parts}
 use Rattle.refusals.specs.declared.Refusal.{Refusal}
 use Rattle.refusals.specs.declared.Refusal.TheVariants.{ConstraintOutside, BusOutside, HubBusFull, ShadowPriceOutside, NotPosted, LambdaOutside, RunOutside, SecondsOutside, AdderOutside}
@@ -32,13 +32,10 @@ use Rattle.saved_rows.specs.Laws.{OnlySaved}
 use Rattle.saved_rows.proofs.Calls.{values, valued_is}
 use Rattle.saved_rows.proofs.Runs.{no_true}
 use Rattle.saved_rows.proofs.Marks.{outages_none, outages_grow}
-use Rattle.saved_rows.proofs.Tables.{From, from_later, from_set, from_replicate, replicate_length, indexed_none, indexed_grow}
+use Rattle.saved_rows.proofs.Tables.{From, from_later, from_set, from_replicate, indexed_none, indexed_grow}
 
-never : {X A E : Type 0} (x : A) (e : E) → ◌≡◌ {A = Result A E} (Err e) (Ok x) → X
+pub never : {X A E : Type 0} (x : A) (e : E) → ◌≡◌ {A = Result A E} (Err e) (Ok x) → X
 never x e p = let z : ◌≡◌ {A = ℕ} 0 1 = cc in absurd (omega arith)
-
-no_some : {X A : Type 0} (a : A) → ◌≡◌ {A = Option A} None (Some a) → X
-no_some a e = let z : ◌≡◌ {A = ℕ} 0 1 = cc in absurd (omega arith)
 
 -- what a line that was taken has passed
 step_by_inv : (o : Result Stage Spot) (r : Result Hour Spot) (q : Place) → step_by o r ≡ Ok q → (o ≡ Ok q.stage) × (r ≡ Ok q.hour)
@@ -446,5 +443,5 @@ only nb nc nr lo lc lr fo fc fr rs c e =
 
 pub only_saved : OnlySaved
 only_saved rs c e =
-    only (replicate 256 no_bus) (replicate 32 None) (replicate 16 None) (replicate_length no_bus 256) (replicate_length {A = Option Constraint} None 32) (replicate_length {A = Option Run} None 16)
+    only (replicate 256 no_bus) (replicate 32 None) (replicate 16 None) (length-replicate 256 no_bus) (length-replicate {A = Option Constraint} 32 None) (length-replicate {A = Option Run} 16 None)
     (from_replicate no_bus 256) (from_replicate {A = Option Constraint} None 32) (from_replicate {A = Option Run} None 16) rs c e

@@ -5,8 +5,8 @@ use lib.Pow.{pow-lt}
 use lib.Signed.{lt_z}
 use Rattle.std.specs.List.{remove}
 use Rattle.std.proofs.lemmas.Nat.{or_lt, mod_below}
-use Rattle.std.proofs.lemmas.List.{get_or-set_same, set-set}
-use Rattle.std.proofs.lemmas.Bool.{cond-true, cond-false, cases_Bool, cases_eq, ltb-true, lt-ltb, le-ltb, eqb-true, eq-eqb, ne_eqb, and_parts, and_from, le-leb, lt-leb, leb-true}
+use Rattle.std.proofs.lemmas.List.{get_or-set_same, set-set, length-replicate}
+use Rattle.std.proofs.lemmas.Bool.{cond-true, cond-false, cases_Bool, cases_eq, ltb-true, lt-ltb, le-ltb, eqb-true, eq-eqb, ne_eqb, and_parts, and_from, le-leb, lt-leb, leb-true, not-true}
 use Rattle.std.proofs.lemmas.Bool.Decides.{nat_tests}
 use Rattle.refusals.specs.declared.Refusal.TheVariants.{BusOutside, HubBusOutside, ZoneOutside, HubBusFull, LoadOutside, ConstraintOutside, ShadowPriceOutside, NotPosted, LambdaOutside, RunOutside, SecondsOutside, AdderOutside}
 use Rattle.faults.specs.declared.Spot.{Spot}
@@ -37,7 +37,7 @@ use Rattle.saved_rows.specs.Laws.{ReadsBack}
 use Rattle.saved_rows.proofs.Calls.{valued_is}
 use Rattle.saved_rows.proofs.Marks.{outages_more, words_same}
 use Rattle.saved_rows.proofs.Runs.{Runs, runs_none, runs_append, runs_one, runs_blank, table, no_true, going}
-use Rattle.saved_rows.proofs.Tables.{From, from_replicate, replicate_length, set_from, set_all, sum_front}
+use Rattle.saved_rows.proofs.Tables.{From, from_replicate, set_from, set_all, sum_front}
 
 up_is : (n m : ℕ) → n ≤ m → up_to (pos n) m ≡ Some n
 up_is n m l = cond-true (leb n m) (Some n) None (le-leb n m l)
@@ -57,10 +57,6 @@ bus_later k None q = refl
 bus_later k (Some (kind.Bus i)) q = lt_z_suc i k q
 bus_later k (Some last) q = q
 
-not_true : (b : Bool) → not b ≡ true → b ≡ false
-not_true true e = let z : ◌≡◌ {A = ℕ} 0 1 = ap (λ (x : Bool). cond x 1 0) e in absurd (omega arith)
-not_true false e = refl
-
 -- a bus all 0 is that of a fresh book
 blank_is : (k : ℕ) (x : Bus) → blank_bus (bus_numbers k x) ≡ true → x ≡ no_bus
 blank_is k x e =
@@ -72,8 +68,8 @@ blank_is k x e =
     λ i. record {
       hub_bus = eqb-true x.hub_bus 0 a.0 i;
       zone = eqb-true x.zone 0 b.0 i;
-      day_ahead = record { live = not_true x.day_ahead.live d.0 i; load = eqb-true x.day_ahead.load 0 d.1 i };
-      real_time = record { live = not_true x.real_time.live r.0 i; load = eqb-true x.real_time.load 0 r.1 i };
+      day_ahead = record { live = not-true x.day_ahead.live d.0 i; load = eqb-true x.day_ahead.load 0 d.1 i };
+      real_time = record { live = not-true x.real_time.live r.0 i; load = eqb-true x.real_time.load 0 r.1 i };
     }
 
 -- a bus that may stand in the table has room in its hub bus
@@ -365,5 +361,5 @@ module _ (book : Book) (no : List Bus) (nc : List (Option Constraint)) (nr : Lis
 
 pub reads_back : ReadsBack
 reads_back book =
-    read_back book (replicate 256 no_bus) (replicate 32 None) (replicate 16 None) (replicate_length no_bus 256) (replicate_length {A = Option Constraint} None 32) (replicate_length {A = Option Run} None 16)
+    read_back book (replicate 256 no_bus) (replicate 32 None) (replicate 16 None) (length-replicate 256 no_bus) (length-replicate {A = Option Constraint} 32 None) (length-replicate {A = Option Run} 16 None)
     (from_replicate no_bus 256) (from_replicate {A = Option Constraint} None 32) (from_replicate {A = Option Run} None 16)
