@@ -1,8 +1,8 @@
 -- One turn of the reader.
-use Rattle.std.proofs.Common.{◌≡◌, ℕ, suc, ◌+◌, ◌-◌, ◌<◌, true, false, cond, eqb, List, [], ◌∷◌, length, Some, None, Ok, Err, Option, Result, sym, refl, ap, ◌∙◌, subst, ⊎_elim, arith, Bor, MatchOption}
+use Rattle.std.proofs.Common.{◌≡◌, ℕ, ◌+◌, ◌-◌, ◌<◌, true, false, cond, eqb, List, [], ◌∷◌, length, Some, None, Ok, Err, Option, Result, sym, refl, ap, ◌∙◌, subst, ⊎_elim, arith, Bor, MatchOption}
 use Rattle.std.specs.Option.{ok_or}
 use Rattle.std.proofs.lemmas.Bool.Decides.{nat_tests}
-use Rattle.std.proofs.lemmas.Bool.{cond-true, cond-false, cases_Bool, eqb-true}
+use Rattle.std.proofs.lemmas.Bool.{cond-true, cond-false, cases_Bool}
 use Rattle.faults.specs.declared.Spot.{Spot}
 use Rattle.faults.specs.declared.Fault.{Fault}
 use Rattle.faults.specs.Faults.{fault, in_line}
@@ -52,10 +52,6 @@ module _ (p : Place) (n : ℕ) (l : List ℕ) (o : Option (List ℕ)) where
 
   pub turn_on : finished p.stage ≡ false → (r : Row) → Ok r ≡ in_line n (row_of (split comma l)) → in_turn p n l o ≡ after_row p n o r
   turn_on d r e = cond-false _ _ _ d ∙ ap (λ x. onward x (after_row p n o)) (sym e)
-
-pub read_end : (p : Place) (n : ℕ) (s : List ℕ) → true ≡ eqb (length s) 0 → read_from p n (split line_end s) ≡ cond (finished p.stage) (Ok p.hour) (Err (misended n))
-read_end p n [] e = refl
-read_end p n (c ∷ cs) e = absurd (omega (arith, eqb-true (suc (length cs)) 0 (sym e)))
 
 pub after_length : (s t : List ℕ) → after line_end s ≡ Some t → length t < length s
 after_length [] t e = let q : ◌≡◌ {A = ℕ} 0 1 = cc in absurd (omega arith)

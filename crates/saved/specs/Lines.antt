@@ -17,22 +17,22 @@ bus_of =
     end 9 (row.Bus (record { bus = bus; hub_bus = hub; zone = zone; day_ahead_live = day_live; day_ahead_load = day_load; real_time_live = real_live; real_time_load = real_load })))))))))
 
 -- one number, or two, of which a row is made
-abbrev pub one_number : (ℤ → Row) → List (List ℕ) → Result Row Spot
-one_number make = number 2 (λ a. end 3 (make a))
+abbrev pub of_one : (ℤ → Row) → List (List ℕ) → Result Row Spot
+of_one make = number 2 (λ a. end 3 (make a))
 
-abbrev pub two_numbers : (ℤ → ℤ → Row) → List (List ℕ) → Result Row Spot
-two_numbers make = number 2 (λ a. number 3 (λ b. end 4 (make a b)))
+abbrev pub of_two : (ℤ → ℤ → Row) → List (List ℕ) → Result Row Spot
+of_two make = number 2 (λ a. number 3 (λ b. end 4 (make a b)))
 
 abbrev pub lambda_of : List (List ℕ) → Result Row Spot
-lambda_of = one_number row.Lambda
+lambda_of = of_one row.Lambda
 
 -- constraint and shadow price
 abbrev pub constraint_of : List (List ℕ) → Result Row Spot
-constraint_of = two_numbers row.Constraint
+constraint_of = of_two row.Constraint
 
 -- constraint and bus
 abbrev pub outage_of : List (List ℕ) → Result Row Spot
-outage_of = two_numbers row.Outage
+outage_of = of_two row.Outage
 
 -- run, seconds, reserve adder and reliability adder
 abbrev pub run_of : List (List ℕ) → Result Row Spot
@@ -40,7 +40,7 @@ run_of = number 2 (λ run. number 3 (λ seconds. number 4 (λ reserve. number 5 
 
 -- the number of lines before it
 abbrev pub end_of : List (List ℕ) → Result Row Spot
-end_of = one_number row.End
+end_of = of_one row.End
 
 -- by the letters B, L, C, O, R and Z
 abbrev pub by_letter : ℕ → List (List ℕ) → Result Row Spot
@@ -77,10 +77,10 @@ pieces (line.End a) = (90 ∷ []) ∷ a.now ∷ []
 
 -- the pieces of a line of one number, or of two, behind any letter
 abbrev pub OneRead : List (List ℕ) → Result (Bor (List ℕ)) Spot → Type 0
-OneRead ps r = (letter : ℕ) (make : ℤ → Row) → ReadAs (λ a. (letter ∷ []) ∷ a.now ∷ []) letter (one_number make) ps r
+OneRead ps r = (letter : ℕ) (make : ℤ → Row) → ReadAs (λ a. (letter ∷ []) ∷ a.now ∷ []) letter (of_one make) ps r
 
 abbrev pub TwoRead : List (List ℕ) → Result (Bor (List ℕ) × Bor (List ℕ)) Spot → Type 0
-TwoRead ps r = (letter : ℕ) (make : ℤ → ℤ → Row) → ReadAs (λ ab. (letter ∷ []) ∷ ab.0.now ∷ ab.1.now ∷ []) letter (two_numbers make) ps r
+TwoRead ps r = (letter : ℕ) (make : ℤ → ℤ → Row) → ReadAs (λ ab. (letter ∷ []) ∷ ab.0.now ∷ ab.1.now ∷ []) letter (of_two make) ps r
 
 -- the numbers of a bus line
 abbrev pub BusRead : Result Row Spot → Result BusRow Spot → Type 0

@@ -11,8 +11,8 @@ use decimals::read_decimal;
 use faults::{Spot, at};
 use saved_rows::row::{BusRow, Row};
 
-// The fields of a bus line.
-#[derive(Clone, Copy)]
+// The fields of a bus line. A type of their own: one generic with the row would name two parameters, for numbers and for statuses, wherever a row is named.
+#[derive(Clone, Copy, PartialEq, Eq, Debug)]
 pub struct BusLine<'a> {
     pub bus: &'a [u8],
     pub hub_bus: &'a [u8],
@@ -23,7 +23,7 @@ pub struct BusLine<'a> {
     pub real_time_load: &'a [u8],
 }
 
-#[derive(Clone, Copy)]
+#[derive(Clone, Copy, PartialEq, Eq, Debug)]
 pub enum Line<'a> {
     Bus(BusLine<'a>),
     Lambda {

@@ -41,7 +41,8 @@ fn read_text(text: &[u8]) -> Result<Book, Fault>
     let mut book = Book::fresh();
     let mut stage = Stage::default();
     let mut rest = text;
-    let mut line = 1u64;
+    let mut line = 1;
+    // Not a `for` over the lines: the number of the line behind the last is asked after the loop too, and a line without its end is seen after its form.
     while !rest.is_empty() {
         if stage.is_done() {
             return Err(line_fault(Why::Ending, line));
