@@ -50,12 +50,12 @@ run_after i (Some (kind.Run last)) = int_lt last i
 run_after i (Some kind.End) = false
 run_after i last = true
 
--- the line was the last
+-- whether the line is the last
 abbrev pub is_end : Option Kind → Bool
 is_end (Some kind.End) = true
 is_end last = false
 
--- the last line
+-- the last line: behind any other
 abbrev pub end_after : Option Kind → Bool
 end_after last = not (is_end last)
 
@@ -94,13 +94,10 @@ blank_bus b =
     eq_z b.hub_bus (pos 0) && (eq_z b.zone (pos 0) && (
     (not b.day_ahead_live && eq_z b.day_ahead_load (pos 0)) && (not b.real_time_live && eq_z b.real_time_load (pos 0))))
 
+-- whether a line says nothing: a bus line may, and no other does
 abbrev pub blank_row : Row → Bool
 blank_row (row.Bus b) = blank_bus b
-blank_row (row.Lambda z) = false
-blank_row (row.Constraint i p) = false
-blank_row (row.Outage i b) = false
-blank_row (row.Run i s a r) = false
-blank_row (row.End n) = false
+blank_row r = false
 
 abbrev pub misplaced : Spot
 misplaced = spot Order 0
