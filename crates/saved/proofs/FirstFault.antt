@@ -3,7 +3,6 @@ use Rattle.std.proofs.Common.{◌≡◌, ℕ, ◌+◌, ◌-◌, Bool, true, fals
 use Rattle.faults.specs.declared.Fault.{Fault}
 use Rattle.faults.specs.declared.Spot.{Spot}
 use Rattle.faults.specs.Faults.{in_line}
-use Rattle.decimals.proofs.Signs.{never}
 use Rattle.cuts.specs.Cuts.{split}
 use Rattle.cuts.specs.Fields.{comma}
 use Rattle.cuts.proofs.Cutting.{split_front}
@@ -12,14 +11,13 @@ use Rattle.saved_rows.specs.Order.{finished}
 use Rattle.saved_rows.specs.Running.{Place, begin, step, onward, misended}
 use Rattle.saved_rows.specs.Laws.{reached}
 use Rattle.saved_rows.specs.declared.row.Row.{Row}
+use Rattle.saved_rows.proofs.OnlySaved.{never}
+use Rattle.saved_rows.proofs.FirstFault.{same_err}
 use Rattle.saved.specs.Lines.{row_of}
 use Rattle.saved.specs.Texts.{line_end}
 use Rattle.saved.specs.Reading.{unended, read_from}
 use Rattle.saved.specs.Laws.{fault_of, Wrong, line_of, First, FirstFault}
 use Rattle.saved.proofs.RowTexts.{line_row}
-
-same_err : {A E : Type 0} (d e : E) → ◌≡◌ {A = Result A E} (Err d) (Err e) → e ≡ d
-same_err d e p = cc
 
 -- from any place on, n lines before the first
 abbrev From : Place → ℕ → List (List ℕ) → List ℕ → Fault → Type 0
@@ -30,7 +28,7 @@ here p n ls l f w = ([], l, ls, p, refl, refl, subst (λ (m : ℕ). Wrong p m ls
 
 -- nothing follows the last line end
 ends : (p : Place) (n : ℕ) (f : Fault) (t : Bool) → finished p.stage ≡ t → cond t (Ok p.hour) (Err (misended (n + 1))) ≡ Err f → From p n [] [] f
-ends p n f true is e = never p.hour f e
+ends p n f true is e = never p.hour f (sym e)
 ends p n f false is e = here p n [] [] f (is, same_err (misended (n + 1)) f e)
 
 -- a line with no end

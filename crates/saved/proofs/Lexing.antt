@@ -4,7 +4,6 @@ use Rattle.std.specs.List.{AllByRecursion as All}
 use Rattle.std.proofs.lemmas.Bool.{cond-false}
 use Rattle.faults.specs.declared.Spot.{Spot}
 use Rattle.faults.specs.Faults.{fault, in_line}
-use Rattle.decimals.proofs.Signs.{never}
 use Rattle.cuts.specs.Cuts.{split, join}
 use Rattle.cuts.specs.Fields.{comma}
 use Rattle.cuts.proofs.Cutting.{split_append}
@@ -13,6 +12,7 @@ use Rattle.saved_rows.specs.declared.row.Row.{Row}
 use Rattle.saved_rows.specs.Order.{finished}
 use Rattle.saved_rows.specs.Running.{Place, step, onward, misended, run_rows}
 use Rattle.saved_rows.specs.Laws.{Writable}
+use Rattle.saved_rows.proofs.OnlySaved.{never}
 use Rattle.saved.specs.Lines.{row_of}
 use Rattle.saved.specs.Texts.{line_end, fields_of, line_text, text_of}
 use Rattle.saved.specs.Reading.{unended, read_from}
@@ -48,21 +48,21 @@ module _ (l m : List ℕ) (ls : List (List ℕ)) (p : Place) (n : ℕ) (b : Hour
         (λ i. (line_row l r h).0 i ++ (line_end ∷ more.1 i)) ∙ sym (append_assoc (join comma (fields_of r)) (line_end ∷ []) (text_of more.0)),
         cond-false _ _ _ d ∙ ap (λ x. onward (in_line n x) (λ q. run_rows q (n + 1) more.0)) k ∙ more.2,
       )
-  step_read r (Err f) d h k e = never b (fault f.why n f.field) (sym e)
+  step_read r (Err f) d h k e = never b (fault f.why n f.field) e
 
   line_read : (t : Bool) (x : Result Row Spot) → finished p.stage ≡ t → row_of (split comma l) ≡ x → cond t (Err (misended n)) (onward (in_line n x) (λ r. onward (in_line n (step p (n - 1) r)) (λ q. read_from q (n + 1) (m ∷ ls)))) ≡ Ok b → Written (l ∷ m ∷ ls) p n b
-  line_read true x d h e = never b (misended n) (sym e)
+  line_read true x d h e = never b (misended n) e
   line_read false (Ok r) d h e = step_read r (step p (n - 1) r) d h refl e
-  line_read false (Err f) d h e = never b (fault f.why n f.field) (sym e)
+  line_read false (Err f) d h e = never b (fault f.why n f.field) e
 
 no_end : (c : ℕ) (cs : List ℕ) (p : Place) (n : ℕ) (b : Hour) (t : Bool) (x : Result Row Spot) → cond t (Err (misended n)) (onward (in_line n x) (λ _. Err (unended n))) ≡ Ok b → Written ((c ∷ cs) ∷ []) p n b
-no_end c cs p n b true x e = never b (misended n) (sym e)
-no_end c cs p n b false (Ok r) e = never b (unended n) (sym e)
-no_end c cs p n b false (Err d) e = never b (fault d.why n d.field) (sym e)
+no_end c cs p n b true x e = never b (misended n) e
+no_end c cs p n b false (Ok r) e = never b (unended n) e
+no_end c cs p n b false (Err d) e = never b (fault d.why n d.field) e
 
 -- and a text that is read is one of lines
 pub rows_read : (ps : List (List ℕ)) (p : Place) (n : ℕ) (b : Hour) → read_from p n ps ≡ Ok b → Written ps p n b
-rows_read [] p n b e = never b (misended n) (sym e)
+rows_read [] p n b e = never b (misended n) e
 rows_read ([] ∷ []) p n b e = ([], refl, e)
 rows_read ((c ∷ cs) ∷ []) p n b e = no_end c cs p n b (finished p.stage) (row_of (split comma (c ∷ cs))) e
 rows_read (l ∷ m ∷ ls) p n b e = line_read l m ls p n b (λ q f. rows_read (m ∷ ls) q (n + 1) b f) (finished p.stage) (row_of (split comma l)) refl refl e

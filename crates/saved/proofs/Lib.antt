@@ -1,4 +1,3 @@
-pub mod Letters
 pub mod Forms
 pub mod Turns
 pub mod RowTexts

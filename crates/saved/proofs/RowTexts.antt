@@ -9,7 +9,7 @@ use Rattle.std.proofs.lemmas.Bool.{cond-true, cond-false, cases_Bool, eqb-true}
 use Rattle.faults.specs.declared.Spot.{Spot}
 use Rattle.decimals.specs.Decimals.{decimal_of}
 use Rattle.decimals.specs.Canonical.{FewDigits}
-use Rattle.decimals.proofs.Signs.{own, never, decimal_signed, signed_decimal}
+use Rattle.decimals.proofs.Signs.{own, decimal_signed, signed_decimal}
 use Rattle.cuts.specs.Cuts.{split, join}
 use Rattle.cuts.specs.Fields.{comma, form_at, not_status, status_of, number, status}
 use Rattle.cuts.proofs.Cutting.{Plain, split_join, join_split}
@@ -17,7 +17,8 @@ use Rattle.cuts.proofs.Taking.{taken_field, ended}
 use Rattle.saved_rows.specs.Laws.{Writable}
 use Rattle.saved_rows.specs.declared.row.Row.{Row}
 use Rattle.saved_rows.specs.declared.row.Row.TheVariants as row
-use Rattle.saved.specs.Lines.{row_of, by_letter, bus_of, lambda_of, constraint_of, outage_of, run_of, end_of}
+use Rattle.saved_rows.proofs.OnlySaved.{never}
+use Rattle.saved.specs.Lines.{row_of, by_letter, bus_of, of_one, of_two, run_of}
 use Rattle.saved.specs.Texts.{line_end, status_text, fields_of}
 
 -- neither comma nor line end stands in a field
@@ -112,13 +113,13 @@ number_inv f k ps r e =
     (t.0, t.2, t.3 ∙ ap (λ p. p ∷ t.2) d.0, d.1, t.5)
 
 text_status : (p : List ℕ) (b : Bool) → status_of p ≡ Ok b → p ≡ status_text b
-text_status [] b e = never b not_status (sym e)
-text_status (c ∷ d ∷ ds) b e = never b not_status (sym e)
+text_status [] b e = never b not_status e
+text_status (c ∷ d ∷ ds) b e = never b not_status e
 text_status (c ∷ []) b e = ⊎_elim
     (λ (d : eqb c 48 ≡ true). let z : Ok false ≡ Ok b = sym (cond-true _ _ _ d) ∙ e in let q : false ≡ b = cc in ap (λ n. n ∷ []) (eqb-true c 48 d) ∙ ap status_text q)
     (λ (d : eqb c 48 ≡ false). ⊎_elim
     (λ (g : eqb c 49 ≡ true). let z : Ok true ≡ Ok b = sym (cond-true _ _ _ g) ∙ sym (cond-false _ _ _ d) ∙ e in let q : true ≡ b = cc in ap (λ n. n ∷ []) (eqb-true c 49 g) ∙ ap status_text q)
-    (λ (g : eqb c 49 ≡ false). never b not_status (sym e ∙ cond-false _ _ _ d ∙ cond-false _ _ _ g))
+    (λ (g : eqb c 49 ≡ false). never b not_status (sym (cond-false _ _ _ g) ∙ sym (cond-false _ _ _ d) ∙ e))
     (cases_Bool (eqb c 49)))
     (cases_Bool (eqb c 48))
 
@@ -146,25 +147,21 @@ bus_inv ps r e =
     f.2 ∙ ap (λ l. signed f.0 ∷ l) (g.2 ∙ ap (λ l. status_text g.0 ∷ l) (h.2 ∙ ap (λ l. signed h.0 ∷ l) i.0)))))) in
     subst (Of ((66 ∷ []) ∷ ps)) i.1 (ap (λ l. (66 ∷ []) ∷ l) all, (a.3, b.3, c.3, f.3, h.3))
 
-lambda_inv : (ps : List (List ℕ)) (r : Row) → lambda_of ps ≡ Ok r → Of ((76 ∷ []) ∷ ps) r
-lambda_inv ps r e =
-    let a = number_inv 2 _ ps r e in
-    let d = ended 3 _ a.1 r a.4 in
-    subst (Of ((76 ∷ []) ∷ ps)) d.1 (ap (λ l. (76 ∷ []) ∷ l) (a.2 ∙ ap (λ l. signed a.0 ∷ l) d.0), a.3)
+module _ (letter : ℕ) (ps : List (List ℕ)) (r : Row) where
+  one_inv : (make : ℤ → Row) → ((z : ℤ) → FewDigits z → Of ((letter ∷ []) ∷ signed z ∷ []) (make z)) → of_one make ps ≡ Ok r → Of ((letter ∷ []) ∷ ps) r
+  one_inv make written e =
+      let a = number_inv 2 _ ps r e in
+      let d = ended 3 _ a.1 r a.4 in
+      let all = a.2 ∙ ap (λ l. signed a.0 ∷ l) d.0 in
+      subst (λ l. Of ((letter ∷ []) ∷ l) r) (sym all) (subst (Of ((letter ∷ []) ∷ signed a.0 ∷ [])) d.1 (written a.0 a.3))
 
-constraint_inv : (ps : List (List ℕ)) (r : Row) → constraint_of ps ≡ Ok r → Of ((67 ∷ []) ∷ ps) r
-constraint_inv ps r e =
-    let a = number_inv 2 _ ps r e in
-    let b = number_inv 3 _ a.1 r a.4 in
-    let d = ended 4 _ b.1 r b.4 in
-    subst (Of ((67 ∷ []) ∷ ps)) d.1 (ap (λ l. (67 ∷ []) ∷ l) (a.2 ∙ ap (λ l. signed a.0 ∷ l) (b.2 ∙ ap (λ l. signed b.0 ∷ l) d.0)), (a.3, b.3))
-
-outage_inv : (ps : List (List ℕ)) (r : Row) → outage_of ps ≡ Ok r → Of ((79 ∷ []) ∷ ps) r
-outage_inv ps r e =
-    let a = number_inv 2 _ ps r e in
-    let b = number_inv 3 _ a.1 r a.4 in
-    let d = ended 4 _ b.1 r b.4 in
-    subst (Of ((79 ∷ []) ∷ ps)) d.1 (ap (λ l. (79 ∷ []) ∷ l) (a.2 ∙ ap (λ l. signed a.0 ∷ l) (b.2 ∙ ap (λ l. signed b.0 ∷ l) d.0)), (a.3, b.3))
+  two_inv : (make : ℤ → ℤ → Row) → ((y z : ℤ) → FewDigits y → FewDigits z → Of ((letter ∷ []) ∷ signed y ∷ signed z ∷ []) (make y z)) → of_two make ps ≡ Ok r → Of ((letter ∷ []) ∷ ps) r
+  two_inv make written e =
+      let a = number_inv 2 _ ps r e in
+      let b = number_inv 3 _ a.1 r a.4 in
+      let d = ended 4 _ b.1 r b.4 in
+      let all = a.2 ∙ ap (λ l. signed a.0 ∷ l) (b.2 ∙ ap (λ l. signed b.0 ∷ l) d.0) in
+      subst (λ l. Of ((letter ∷ []) ∷ l) r) (sym all) (subst (Of ((letter ∷ []) ∷ signed a.0 ∷ signed b.0 ∷ [])) d.1 (written a.0 b.0 a.3 b.3))
 
 run_inv : (ps : List (List ℕ)) (r : Row) → run_of ps ≡ Ok r → Of ((82 ∷ []) ∷ ps) r
 run_inv ps r e =
@@ -175,12 +172,6 @@ run_inv ps r e =
     let d = ended 6 _ f.1 r f.4 in
     subst (Of ((82 ∷ []) ∷ ps)) d.1 (ap (λ l. (82 ∷ []) ∷ l) (a.2 ∙ ap (λ l. signed a.0 ∷ l) (b.2 ∙ ap (λ l. signed b.0 ∷ l) (c.2 ∙ ap (λ l. signed c.0 ∷ l) (f.2 ∙ ap (λ l. signed f.0 ∷ l) d.0)))), (a.3, b.3, c.3, f.3))
 
-end_inv : (ps : List (List ℕ)) (r : Row) → end_of ps ≡ Ok r → Of ((90 ∷ []) ∷ ps) r
-end_inv ps r e =
-    let a = number_inv 2 _ ps r e in
-    let d = ended 3 _ a.1 r a.4 in
-    subst (Of ((90 ∷ []) ∷ ps)) d.1 (ap (λ l. (90 ∷ []) ∷ l) (a.2 ∙ ap (λ l. signed a.0 ∷ l) d.0), a.3)
-
 -- one case of the choice by letter
 by_case : (b m : ℕ) (ps : List (List ℕ)) (r : Row) (x y : Result Row Spot) → cond (eqb b m) x y ≡ Ok r → (x ≡ Ok r → Of ((m ∷ []) ∷ ps) r) → (y ≡ Ok r → Of ((b ∷ []) ∷ ps) r) → Of ((b ∷ []) ∷ ps) r
 by_case b m ps r x y e hit miss = ⊎_elim
@@ -190,14 +181,14 @@ by_case b m ps r x y e hit miss = ⊎_elim
 
 letter_inv : (b : ℕ) (ps : List (List ℕ)) (r : Row) → by_letter b ps ≡ Ok r → Of ((b ∷ []) ∷ ps) r
 letter_inv b ps r e =
-    by_case b 66 ps r _ _ e (bus_inv ps r) (λ e. by_case b 76 ps r _ _ e (lambda_inv ps r) (λ e. by_case b 67 ps r _ _ e (constraint_inv ps r) (
-    λ e. by_case b 79 ps r _ _ e (outage_inv ps r) (λ e. by_case b 82 ps r _ _ e (run_inv ps r) (λ e. by_case b 90 ps r _ _ e (end_inv ps r) (λ e. never r (form_at 1) (sym e)))))))
+    by_case b 66 ps r _ _ e (bus_inv ps r) (λ e. by_case b 76 ps r _ _ e (one_inv 76 ps r row.Lambda (λ z h. (refl, h))) (λ e. by_case b 67 ps r _ _ e (two_inv 67 ps r row.Constraint (λ y z g h. (refl, (g, h)))) (
+    λ e. by_case b 79 ps r _ _ e (two_inv 79 ps r row.Outage (λ y z g h. (refl, (g, h)))) (λ e. by_case b 82 ps r _ _ e (run_inv ps r) (λ e. by_case b 90 ps r _ _ e (one_inv 90 ps r row.End (λ z h. (refl, h))) (λ e. never r (form_at 1) e))))))
 
 row_inv : (ps : List (List ℕ)) (r : Row) → row_of ps ≡ Ok r → Of ps r
-row_inv [] r e = never r (form_at 1) (sym e)
-row_inv ([] ∷ ps) r e = never r (form_at 1) (sym e)
+row_inv [] r e = never r (form_at 1) e
+row_inv ([] ∷ ps) r e = never r (form_at 1) e
 row_inv ((b ∷ []) ∷ ps) r e = letter_inv b ps r e
-row_inv ((b ∷ c ∷ bs) ∷ ps) r e = never r (form_at 1) (sym e)
+row_inv ((b ∷ c ∷ bs) ∷ ps) r e = never r (form_at 1) e
 
 -- and nothing else is read
 pub line_row : (l : List ℕ) (r : Row) → row_of (split comma l) ≡ Ok r → (l ≡ join comma (fields_of r)) × Writable r

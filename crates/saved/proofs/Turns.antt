@@ -1,7 +1,8 @@
 -- One turn of the reader.
-use Rattle.std.proofs.Common.{◌≡◌, ℕ, suc, ◌+◌, ◌-◌, ◌<◌, true, false, cond, eqb, List, [], ◌∷◌, length, Some, None, Ok, Err, Option, Result, sym, refl, ap, ◌∙◌, subst, ⊎_elim, arith}
+use Rattle.std.proofs.Common.{◌≡◌, ℕ, ◌+◌, ◌-◌, ◌<◌, true, false, cond, eqb, List, [], ◌∷◌, length, Some, None, Ok, Err, Option, Result, sym, refl, ap, ◌∙◌, subst, ⊎_elim, arith, Bor, MatchOption}
+use Rattle.std.specs.Option.{ok_or}
 use Rattle.std.proofs.lemmas.Bool.Decides.{nat_tests}
-use Rattle.std.proofs.lemmas.Bool.{cond-true, cond-false, cases_Bool, eqb-true}
+use Rattle.std.proofs.lemmas.Bool.{cond-true, cond-false, cases_Bool}
 use Rattle.faults.specs.declared.Spot.{Spot}
 use Rattle.faults.specs.declared.Fault.{Fault}
 use Rattle.faults.specs.Faults.{fault, in_line}
@@ -52,16 +53,21 @@ module _ (p : Place) (n : ℕ) (l : List ℕ) (o : Option (List ℕ)) where
   pub turn_on : finished p.stage ≡ false → (r : Row) → Ok r ≡ in_line n (row_of (split comma l)) → in_turn p n l o ≡ after_row p n o r
   turn_on d r e = cond-false _ _ _ d ∙ ap (λ x. onward x (after_row p n o)) (sym e)
 
-pub read_end : (p : Place) (n : ℕ) (s : List ℕ) → true ≡ eqb (length s) 0 → read_from p n (split line_end s) ≡ cond (finished p.stage) (Ok p.hour) (Err (misended n))
-read_end p n [] e = refl
-read_end p n (c ∷ cs) e = absurd (omega (arith, eqb-true (suc (length cs)) 0 (sym e)))
-
 pub after_length : (s t : List ℕ) → after line_end s ≡ Some t → length t < length s
 after_length [] t e = let q : ◌≡◌ {A = ℕ} 0 1 = cc in absurd (omega arith)
 after_length (c ∷ cs) t e = ⊎_elim
     (λ (d : eqb c line_end ≡ true). let z : Some cs ≡ Some t = sym (cond-true _ _ _ d) ∙ e in let q : cs ≡ t = cc in omega (arith, ap length q))
     (λ (d : eqb c line_end ≡ false). omega (arith, after_length cs t (sym (cond-false _ _ _ d) ∙ e)))
     (cases_Bool (eqb c line_end))
+
+-- what a cut leaves, as the fault of a missing line end takes it
+pub ended_at : (s : List ℕ) (o : Option (Bor (List ℕ))) (e : Fault) (t : Bor (List ℕ)) → Ok t ≡ ok_or o e → MatchOption o (after line_end s ≡ None) (λ u. after line_end s ≡ Some u.now) → after line_end s ≡ Some t.now
+ended_at s None e t k h = let z : ◌≡◌ {A = ℕ} 0 1 = cc in absurd (omega arith)
+ended_at s (Some u) e t k h = let z : u ≡ t = cc in h ∙ ap (λ (v : Bor (List ℕ)). Some v.now) z
+
+pub unended_at : (s : List ℕ) (o : Option (Bor (List ℕ))) (e f : Fault) → Err f ≡ ok_or o e → MatchOption o (after line_end s ≡ None) (λ u. after line_end s ≡ Some u.now) → (after line_end s ≡ None) × (f ≡ e)
+unended_at s None e f k h = (h, cc)
+unended_at s (Some u) e f k h = let z : ◌≡◌ {A = ℕ} 0 1 = cc in absurd (omega arith)
 
 -- the same from what the code knows of a turn
 module _ (p : Place) (n : ℕ) (s : List ℕ) (some : false ≡ eqb (length s) 0) where

@@ -1,7 +1,8 @@
 -- The lines of saved text: the row that the fields of a line write.
-use Rattle.std.specs.Prelude.{◌≡◌, ℕ, cond, List, [], ◌∷◌, Some, None, Ok, Err, Option, Result, MatchResult, ◌==◌}
+use Rattle.std.specs.Prelude.{◌≡◌, ℕ, cond, List, [], ◌∷◌, Some, None, Ok, Err, Option, Result, ℤ, MatchResult, ◌==◌}
+use Rattle.std.specs.Borrow.{Bor}
 use Rattle.faults.specs.declared.Spot.{Spot}
-use Rattle.cuts.specs.Fields.{form_at, letter_of, number, status, end}
+use Rattle.cuts.specs.Fields.{form_at, letter_of, number, status, end, ReadAs}
 use Rattle.saved_rows.specs.declared.row.BusRow.{BusRow}
 use Rattle.saved_rows.specs.declared.row.Row.{Row}
 use Rattle.saved_rows.specs.declared.row.Row.TheVariants as row
@@ -15,16 +16,23 @@ bus_of =
     number 2 (λ bus. number 3 (λ hub. number 4 (λ zone. status 5 (λ day_live. number 6 (λ day_load. status 7 (λ real_live. number 8 (λ real_load.
     end 9 (row.Bus (record { bus = bus; hub_bus = hub; zone = zone; day_ahead_live = day_live; day_ahead_load = day_load; real_time_live = real_live; real_time_load = real_load })))))))))
 
+-- one number, or two, of which a row is made
+abbrev pub of_one : (ℤ → Row) → List (List ℕ) → Result Row Spot
+of_one make = number 2 (λ a. end 3 (make a))
+
+abbrev pub of_two : (ℤ → ℤ → Row) → List (List ℕ) → Result Row Spot
+of_two make = number 2 (λ a. number 3 (λ b. end 4 (make a b)))
+
 abbrev pub lambda_of : List (List ℕ) → Result Row Spot
-lambda_of = number 2 (λ lambda. end 3 (row.Lambda lambda))
+lambda_of = of_one row.Lambda
 
 -- constraint and shadow price
 abbrev pub constraint_of : List (List ℕ) → Result Row Spot
-constraint_of = number 2 (λ constraint. number 3 (λ price. end 4 (row.Constraint constraint price)))
+constraint_of = of_two row.Constraint
 
 -- constraint and bus
 abbrev pub outage_of : List (List ℕ) → Result Row Spot
-outage_of = number 2 (λ constraint. number 3 (λ bus. end 4 (row.Outage constraint bus)))
+outage_of = of_two row.Outage
 
 -- run, seconds, reserve adder and reliability adder
 abbrev pub run_of : List (List ℕ) → Result Row Spot
@@ -32,7 +40,7 @@ run_of = number 2 (λ run. number 3 (λ seconds. number 4 (λ reserve. number 5 
 
 -- the number of lines before it
 abbrev pub end_of : List (List ℕ) → Result Row Spot
-end_of = number 2 (λ count. end 3 (row.End count))
+end_of = of_one row.End
 
 -- by the letters B, L, C, O, R and Z
 abbrev pub by_letter : ℕ → List (List ℕ) → Result Row Spot
@@ -66,6 +74,13 @@ pieces (line.Constraint a b) = (67 ∷ []) ∷ a.now ∷ b.now ∷ []
 pieces (line.Outage a b) = (79 ∷ []) ∷ a.now ∷ b.now ∷ []
 pieces (line.Run a b c d) = (82 ∷ []) ∷ a.now ∷ b.now ∷ c.now ∷ d.now ∷ []
 pieces (line.End a) = (90 ∷ []) ∷ a.now ∷ []
+
+-- the pieces of a line of one number, or of two, behind any letter
+abbrev pub OneRead : List (List ℕ) → Result (Bor (List ℕ)) Spot → Type 0
+OneRead ps r = (letter : ℕ) (make : ℤ → Row) → ReadAs (λ a. (letter ∷ []) ∷ a.now ∷ []) letter (of_one make) ps r
+
+abbrev pub TwoRead : List (List ℕ) → Result (Bor (List ℕ) × Bor (List ℕ)) Spot → Type 0
+TwoRead ps r = (letter : ℕ) (make : ℤ → ℤ → Row) → ReadAs (λ ab. (letter ∷ []) ∷ ab.0.now ∷ ab.1.now ∷ []) letter (of_two make) ps r
 
 -- the numbers of a bus line
 abbrev pub BusRead : Result Row Spot → Result BusRow Spot → Type 0

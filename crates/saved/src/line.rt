@@ -4,15 +4,15 @@ ghost use Rattle.cuts.specs.Cuts.{split};
 ghost use Rattle.cuts.specs.Fields.{comma, left, ReadAs, ReadLine};
 ghost use Rattle.cuts.specs.FirstWrong.{Located};
 ghost use Rattle.saved.specs.Forms.{wrong_field};
-ghost use Rattle.saved.specs.Lines.{pieces, bus_pieces, bus_of, lambda_of, constraint_of, outage_of, run_of, end_of, row_of, BusRead};
+ghost use Rattle.saved.specs.Lines.{pieces, bus_pieces, bus_of, run_of, row_of, OneRead, TwoRead, BusRead};
 
 use cuts::fields::{Fields, malformed, read_letter, read_status};
 use decimals::read_decimal;
 use faults::{Spot, at};
 use saved_rows::row::{BusRow, Row};
 
-// The fields of a bus line.
-#[derive(Clone, Copy)]
+// The fields of a bus line. A type of their own: one generic with the row would name two parameters, for numbers and for statuses, wherever a row is named.
+#[derive(Clone, Copy, PartialEq, Eq, Debug)]
 pub struct BusLine<'a> {
     pub bus: &'a [u8],
     pub hub_bus: &'a [u8],
@@ -23,7 +23,7 @@ pub struct BusLine<'a> {
     pub real_time_load: &'a [u8],
 }
 
-#[derive(Clone, Copy)]
+#[derive(Clone, Copy, PartialEq, Eq, Debug)]
 pub enum Line<'a> {
     Bus(BusLine<'a>),
     Lambda {
@@ -70,33 +70,23 @@ fn read_bus<'a>(mut fields: Fields<'a>) -> Result<Line<'a>, Spot>
     }))
 }
 
-fn read_lambda<'a>(mut fields: Fields<'a>) -> Result<Line<'a>, Spot>
-    ensures { ReadAs pieces 76 lambda_of (left fields.entry) result }
+// The only field behind a letter, which has to be a number.
+fn read_number<'a>(mut fields: Fields<'a>) -> Result<&'a [u8], Spot>
+    ensures { OneRead (left fields.entry) result }
 {
-    let lambda = fields.number(2)?;
+    let number = fields.number(2)?;
     fields.end(3)?;
-    Ok(Line::Lambda { lambda })
+    Ok(number)
 }
 
-fn read_constraint<'a>(mut fields: Fields<'a>) -> Result<Line<'a>, Spot>
-    ensures { ReadAs pieces 67 constraint_of (left fields.entry) result }
+// The two fields behind a letter, which have to be numbers.
+fn read_pair<'a>(mut fields: Fields<'a>) -> Result<(&'a [u8], &'a [u8]), Spot>
+    ensures { TwoRead (left fields.entry) result }
 {
-    let constraint = fields.number(2)?;
-    let shadow_price = fields.number(3)?;
+    let first = fields.number(2)?;
+    let second = fields.number(3)?;
     fields.end(4)?;
-    Ok(Line::Constraint {
-        constraint,
-        shadow_price,
-    })
-}
-
-fn read_outage<'a>(mut fields: Fields<'a>) -> Result<Line<'a>, Spot>
-    ensures { ReadAs pieces 79 outage_of (left fields.entry) result }
-{
-    let constraint = fields.number(2)?;
-    let bus = fields.number(3)?;
-    fields.end(4)?;
-    Ok(Line::Outage { constraint, bus })
+    Ok((first, second))
 }
 
 fn read_run<'a>(mut fields: Fields<'a>) -> Result<Line<'a>, Spot>
@@ -113,14 +103,6 @@ fn read_run<'a>(mut fields: Fields<'a>) -> Result<Line<'a>, Spot>
         reserve_adder,
         reliability_adder,
     })
-}
-
-fn read_end<'a>(mut fields: Fields<'a>) -> Result<Line<'a>, Spot>
-    ensures { ReadAs pieces 90 end_of (left fields.entry) result }
-{
-    let count = fields.number(2)?;
-    fields.end(3)?;
-    Ok(Line::End { count })
 }
 
 impl<'a> BusLine<'a> {
@@ -140,32 +122,38 @@ impl<'a> BusLine<'a> {
     }
 }
 
-// The line that a part of the text writes.
-fn read_line<'a>(line: &'a [u8]) -> Result<Line<'a>, Spot>
-    ensures { ReadLine pieces row_of (split comma line.now) result }
-{
-    let (first, fields) = Fields::of(line);
-    let Some(letter) = read_letter(first) else {
-        return Err(malformed(1));
-    };
-    match letter {
-        'B' => read_bus(fields),
-        'L' => read_lambda(fields),
-        'C' => read_constraint(fields),
-        'O' => read_outage(fields),
-        'R' => read_run(fields),
-        'Z' => read_end(fields),
-        _ => Err(malformed(1)),
-    }
-}
-
 impl<'a> Line<'a> {
     // The line that a part of the text writes, or its first wrong, missing or surplus field.
+    #[tactic(auto, using(crate::proofs::Forms::read_located))]
     pub fn read(line: &'a [u8]) -> Result<Line<'a>, Spot>
         ensures value { ReadLine pieces row_of (split comma line.now) result }
         ensures place { Located (wrong_field (split comma line.now)) result }
     {
-        read_line(line)
+        let (first, fields) = Fields::of(line);
+        match read_letter(first).ok_or(malformed(1))? {
+            'B' => read_bus(fields),
+            'L' => {
+                let lambda = read_number(fields)?;
+                Ok(Line::Lambda { lambda })
+            }
+            'C' => {
+                let (constraint, shadow_price) = read_pair(fields)?;
+                Ok(Line::Constraint {
+                    constraint,
+                    shadow_price,
+                })
+            }
+            'O' => {
+                let (constraint, bus) = read_pair(fields)?;
+                Ok(Line::Outage { constraint, bus })
+            }
+            'R' => read_run(fields),
+            'Z' => {
+                let count = read_number(fields)?;
+                Ok(Line::End { count })
+            }
+            _ => Err(malformed(1)),
+        }
     }
 
     // The numbers of its fields.

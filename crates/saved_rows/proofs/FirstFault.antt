@@ -7,12 +7,10 @@ use Rattle.saved_rows.specs.Order.{finished}
 use Rattle.saved_rows.specs.Running.{Place, begin, step, onward, run_rows, misended}
 use Rattle.saved_rows.specs.Laws.{reached, Wrong, FirstFault}
 use Rattle.saved_rows.specs.declared.row.Row.{Row}
+use Rattle.saved_rows.proofs.OnlySaved.{never}
 
-same_err : {A E : Type 0} (d e : E) → ◌≡◌ {A = Result A E} (Err d) (Err e) → e ≡ d
+pub same_err : {A E : Type 0} (d e : E) → ◌≡◌ {A = Result A E} (Err d) (Err e) → e ≡ d
 same_err d e p = cc
-
-never : {X A E : Type 0} (x : A) (e : E) → ◌≡◌ {A = Result A E} (Ok x) (Err e) → X
-never x e p = let z : ◌≡◌ {A = ℕ} 0 1 = cc in absurd (omega arith)
 
 -- from any place on, n lines before the first
 abbrev From : Place → ℕ → List Row → Fault → Type 0
@@ -22,7 +20,7 @@ here : (p : Place) (n : ℕ) (rs : List Row) (f : Fault) → Wrong p n rs f → 
 here p n rs f w = ([], rs, p, refl, refl, subst (λ (m : ℕ). Wrong p m rs f) (omega arith) w)
 
 ends : (p : Place) (n : ℕ) (f : Fault) (t : Bool) → finished p.stage ≡ t → cond t (Ok p.hour) (Err (misended (n + 1))) ≡ Err f → From p n [] f
-ends p n f true is e = never p.hour f e
+ends p n f true is e = never p.hour f (sym e)
 ends p n f false is e = here p n [] f (is, same_err (misended (n + 1)) f e)
 
 goes : (p : Place) (n : ℕ) (r : Row) (rs : List Row) (f : Fault) (t : Bool) (x : Result Place Spot) → ((q : Place) → run_rows q (n + 1 + 1) rs ≡ Err f → From q (n + 1) rs f)

@@ -1,7 +1,9 @@
 -- Outage marks: the lines of the buses out under a constraint, and words that hold the same buses.
-use Rattle.std.proofs.Common.{◌≡◌, ℕ, zero, suc, ◌+◌, ◌*◌, ◌/◌, ◌%◌, ◌^◌, ◌<◌, ◌≤◌, Bool, true, false, cond, eqb, List, [], ◌∷◌, ◌++◌, length, get_or, pos, sym, refl, ap, ◌∙◌, ap₂, ⊎_elim, append-nil, pow-suc, arith}
+use Rattle.std.proofs.Common.{◌≡◌, ℕ, zero, suc, ◌+◌, ◌*◌, ◌/◌, ◌%◌, ◌^◌, ◌<◌, ◌≤◌, Bool, true, false, cond, eqb, List, [], ◌∷◌, ◌++◌, get_or, pos, sym, refl, ap, ◌∙◌, ap₂, ⊎_elim, append-nil, pow-suc, arith}
 use Rattle.std.proofs.lemmas.Nat.{div-mul-add, mod-mul-add, mod_below}
+use Rattle.std.proofs.lemmas.List.{ext_get_or}
 use Rattle.std.proofs.lemmas.Bool.{cases_eq}
+use Rattle.std.proofs.lemmas.Bool.Decides.{nat_tests}
 use Rattle.bus_set.specs.Sets.{bit, member, four_words}
 use Rattle.bus_set.proofs.Words.{bit_low, bit_up}
 use Rattle.bus_set.proofs.Sets.{words_length, words_below}
@@ -48,13 +50,7 @@ unfolding outage_rows
 outages_more k out n = refl
 
 low_same : (x y : ℕ) → x < 2 → y < 2 → eqb x 1 ≡ eqb y 1 → x ≡ y
-low_same zero zero p q e = refl
-low_same zero (suc zero) p q e = let z : ◌≡◌ {A = ℕ} 0 1 = ap (λ (b : Bool). cond b 1 0) e in absurd (omega arith)
-low_same (suc zero) zero p q e = let z : ◌≡◌ {A = ℕ} 1 0 = ap (λ (b : Bool). cond b 1 0) e in absurd (omega arith)
-low_same (suc zero) (suc zero) p q e = refl
-low_same zero (suc (suc y)) p q e = absurd (omega arith)
-low_same (suc zero) (suc (suc y)) p q e = absurd (omega arith)
-low_same (suc (suc x)) y p q e = absurd (omega arith)
+low_same x y p q e = grind (arith, nat_tests)
 
 -- a word is its bits
 word_same : (n w v : ℕ) → w < 2 ^ n → v < 2 ^ n → ((k : ℕ) → k < n → bit w k ≡ bit v k) → w ≡ v
@@ -75,10 +71,4 @@ words_same a b ha hb h =
     let lb = words_length b hb in
     let at : (i : ℕ) → i < 4 → get_or a i 0 ≡ get_or b i 0 =
     λ i l. word_same 64 (get_or a i 0) (get_or b i 0) (words_below a ha i l) (words_below b hb i l) (λ k lk. sym (at_word a i k lk) ∙ h (i * 64 + k) (omega arith) ∙ at_word b i k lk) in
-    all_same a b (la ∙ sym lb) (λ i l. at i (omega arith))
-  where
-    all_same : (a b : List ℕ) → length a ≡ length b → ((i : ℕ) → i < length a → get_or a i 0 ≡ get_or b i 0) → a ≡ b
-    all_same [] [] e h = refl
-    all_same [] (y ∷ b) e h = absurd (omega arith)
-    all_same (x ∷ a) [] e h = absurd (omega arith)
-    all_same (x ∷ a) (y ∷ b) e h = λ i. h 0 (omega arith) i ∷ all_same a b (omega arith) (λ j l. h (suc j) (omega arith)) i
+    ext_get_or 0 a b (la ∙ sym lb) (λ i l. at i (omega arith))

@@ -1,14 +1,16 @@
 -- Lines that are taken one after another, and a table read entry by entry.
-use Rattle.std.proofs.Common.{◌≡◌, ℕ, suc, ◌+◌, ◌-◌, ◌<◌, Bool, true, false, List, [], ◌∷◌, ◌++◌, length, set, Some, Ok, Result, sym, ap, ◌∙◌, subst, append_assoc, add-zero, arith}
+use Rattle.std.proofs.Common.{◌≡◌, ℕ, suc, ◌+◌, ◌-◌, ◌<◌, Bool, true, false, cond, List, [], ◌∷◌, ◌++◌, length, set, Some, None, Ok, Option, Result, sym, refl, ap, ◌∙◌, subst, append_assoc, add-zero, arith}
 use Rattle.std.proofs.lemmas.List.{length-append, length-set}
-use Rattle.std.proofs.lemmas.Bool.{cond-false, and_parts}
+use Rattle.std.proofs.lemmas.Bool.{cond-true, cond-false, and_parts}
 use Rattle.faults.specs.declared.Spot.{Spot}
 use Rattle.faults.specs.Faults.{in_line}
 use Rattle.hour.specs.Hour.{Hour}
 use Rattle.hour.specs.Sound.{all_by}
 use Rattle.saved_rows.specs.declared.row.Row.{Row}
+use Rattle.saved_rows.specs.declared.stage.Kind.{Kind}
+use Rattle.saved_rows.specs.declared.stage.Kind.TheVariants as kind
 use Rattle.saved_rows.specs.declared.stage.Stage.{Stage}
-use Rattle.saved_rows.specs.Order.{follows, kind_of, blank_row, in_order, next, finished}
+use Rattle.saved_rows.specs.Order.{may_follow, behind, kind_of, blank_row, in_order, next, is_end, finished}
 use Rattle.saved_rows.specs.Entering.{enter}
 use Rattle.saved_rows.specs.Rows.{indexed}
 use Rattle.saved_rows.specs.Running.{Place, place, step, step_by, onward, run_rows}
@@ -29,19 +31,32 @@ runs_append p q r xs ys f g n rest =
 runs_step : (p q : Place) (r : Row) → finished p.stage ≡ false → ((n : ℕ) → step p n r ≡ Ok q) → Runs p (r ∷ []) q
 runs_step p q r d h n rest = cond-false _ _ _ d ∙ ap (λ (x : Result Place Spot). onward (in_line n x) (λ q. run_rows q (n + 1) rest)) (h (n - 1))
 
+pub no_true : {X : Type 0} → false ≡ true → X
+no_true e = let z : ◌≡◌ {A = ℕ} 0 1 = ap (λ (b : Bool). cond b 1 0) e in absurd (omega arith)
+
+-- nothing may follow the last line
+pub going : (s : Option Kind) (k : Kind) → may_follow s k ≡ true → is_end s ≡ false
+going (Some kind.End) (kind.Bus i) e = no_true e
+going (Some kind.End) kind.Lambda e = no_true e
+going (Some kind.End) (kind.Constraint i) e = no_true e
+going (Some kind.End) (kind.Outage i b) e = no_true e
+going (Some kind.End) (kind.Run i) e = no_true e
+going (Some kind.End) kind.End e = no_true e
+going s k e = refl
+
 -- one line that may come, and is entered
-pub runs_one : (s t : Stage) (h h' : Hour) (r : Row) → finished s ≡ false → blank_row r ≡ false → follows s (kind_of r) ≡ Some t → ((n : ℕ) → enter h n r ≡ Ok h') → Runs (place s h) (r ∷ []) (place t h')
-runs_one s t h h' r going full after said =
-    let order : next s r ≡ Ok t = cond-false (blank_row r) _ (in_order (follows s (kind_of r))) full ∙ ap in_order after in
-    runs_step (place s h) (place t h') r going (λ n i. step_by (order i) (said n i))
+pub runs_one : (s : Stage) (h h' : Hour) (r : Row) → blank_row r ≡ false → may_follow s.last (kind_of r) ≡ true → ((n : ℕ) → enter h n r ≡ Ok h') → Runs (place s h) (r ∷ []) (place (behind (kind_of r)) h')
+runs_one s h h' r full after said =
+    let order : next s r ≡ Ok (behind (kind_of r)) = cond-false (blank_row r) _ _ full ∙ ap in_order (cond-true (may_follow s.last (kind_of r)) (Some (behind (kind_of r))) None after) in
+    runs_step (place s h) (place (behind (kind_of r)) h') r (going s.last (kind_of r) after) (λ n i. step_by (order i) (said n i))
 
 -- a table is read entry by entry, where a rule that holds of a table holds of its front
-module _ {A : Type 0} (f : ℕ → A → List Row) (d : A) (good : A → Bool) (mk : List A → Hour) (Q : ℕ → Stage → Type 0) (N : ℕ) (Rule : List A → Type 0)
+module _ {A : Type 0} (f : ℕ → A → List Row) (d : A) (good : A → Bool) (mk : List A → Hour) (Q : ℕ → Option Kind → Type 0) (N : ℕ) (Rule : List A → Type 0)
     (front : (xs t : List A) (k : ℕ) → length t ≡ k + length xs → From d t k → Rule (set_from t k xs) → Rule t)
-    (entry : (t : List A) (k : ℕ) (x : A) (s : Stage) → k < N → length t ≡ N → good x ≡ true → Rule (set t k x) → Q k s → From d t k → (u : Stage) × Q (suc k) u × Runs (place s (mk t)) (f k x) (place u (mk (set t k x)))) where
-  pub table : (xs t : List A) (k : ℕ) (s : Stage) → k + length xs ≡ N → length t ≡ N → all_by good xs ≡ true → Rule (set_from t k xs) → Q k s → From d t k
-      → (u : Stage) × Q N u × Runs (place s (mk t)) (indexed f k xs) (place u (mk (set_from t k xs)))
-  table [] t k s e l g rule q h = (s, subst (λ (m : ℕ). Q m s) (sym (add-zero k) ∙ e) q, runs_none (place s (mk t)))
+    (entry : (t : List A) (k : ℕ) (x : A) (s : Stage) → k < N → length t ≡ N → good x ≡ true → Rule (set t k x) → Q k s.last → From d t k → (u : Stage) × Q (suc k) u.last × Runs (place s (mk t)) (f k x) (place u (mk (set t k x)))) where
+  pub table : (xs t : List A) (k : ℕ) (s : Stage) → k + length xs ≡ N → length t ≡ N → all_by good xs ≡ true → Rule (set_from t k xs) → Q k s.last → From d t k
+      → (u : Stage) × Q N u.last × Runs (place s (mk t)) (indexed f k xs) (place u (mk (set_from t k xs)))
+  table [] t k s e l g rule q h = (s, subst (λ (m : ℕ). Q m s.last) (sym (add-zero k) ∙ e) q, runs_none (place s (mk t)))
   table (x ∷ xs) t k s e l g rule q h =
       let p = and_parts (good x) (all_by good xs) g in
       let later = from_set d x t k (from_later d t k (suc k) (omega arith) h) in

@@ -1,6 +1,6 @@
 -- The lines of a table, and a table written entry by entry.
 use Rattle.std.proofs.Common.{◌≡◌, ℕ, zero, suc, ◌+◌, ◌<◌, ◌≤◌, List, [], ◌∷◌, ◌++◌, length, get_or, take, set, replicate, sum_by, sym, refl, ap, ◌∙◌, subst, append_assoc, append-nil, add-zero, add-one, arith}
-use Rattle.std.proofs.lemmas.List.{take_all, length-set, take_more_set, set-get_or}
+use Rattle.std.proofs.lemmas.List.{take_all, length-set, take_more_set, set-get_or, get_or-set_other}
 use Rattle.std.proofs.lemmas.List.Sums.{sum_by-set}
 use Rattle.saved_rows.specs.declared.row.Row.{Row}
 use Rattle.saved_rows.specs.Rows.{indexed}
@@ -12,24 +12,13 @@ From d xs k = (j : ℕ) → k ≤ j → get_or xs j d ≡ d
 pub from_later : {A : Type 0} (d : A) (xs : List A) (k m : ℕ) → k ≤ m → From d xs k → From d xs m
 from_later d xs k m l h j e = h j (omega arith)
 
-get_d_set_later : {A : Type 0} (d x : A) (xs : List A) (i j : ℕ) → i < j → get_or (set xs i x) j d ≡ get_or xs j d
-get_d_set_later d x [] i j l = refl
-get_d_set_later d x (y ∷ ys) zero zero l = absurd (omega arith)
-get_d_set_later d x (y ∷ ys) zero (suc j) l = refl
-get_d_set_later d x (y ∷ ys) (suc i) zero l = absurd (omega arith)
-get_d_set_later d x (y ∷ ys) (suc i) (suc j) l = get_d_set_later d x ys i j (omega arith)
-
 pub from_set : {A : Type 0} (d x : A) (xs : List A) (i : ℕ) → From d xs (suc i) → From d (set xs i x) (suc i)
-from_set d x xs i h j l = get_d_set_later d x xs i j (omega arith) ∙ h j l
+from_set d x xs i h j l = get_or-set_other xs i j x d (λ e. omega arith) ∙ h j l
 
 pub from_replicate : {A : Type 0} (d : A) (n : ℕ) → From d (replicate n d) 0
 from_replicate d zero j l = refl
 from_replicate d (suc n) zero l = refl
 from_replicate d (suc n) (suc j) l = from_replicate d n j (omega arith)
-
-pub replicate_length : {A : Type 0} (d : A) (n : ℕ) → length (replicate n d) ≡ n
-replicate_length d zero = refl
-replicate_length d (suc n) = ap suc (replicate_length d n)
 
 module _ {A : Type 0} (f : ℕ → A → List Row) (d : A) (none : (k : ℕ) → f k d ≡ []) where
   pub indexed_none : (xs : List A) (k : ℕ) → From d xs 0 → indexed f k xs ≡ []

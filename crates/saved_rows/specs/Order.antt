@@ -9,7 +9,6 @@ use Rattle.saved_rows.specs.declared.row.BusRow.{BusRow}
 use Rattle.saved_rows.specs.declared.stage.Kind.{Kind}
 use Rattle.saved_rows.specs.declared.stage.Kind.TheVariants as kind
 use Rattle.saved_rows.specs.declared.stage.Stage.{Stage}
-use Rattle.saved_rows.specs.declared.stage.Stage.TheVariants as stage
 
 -- the same number
 abbrev pub eq_z : ℤ → ℤ → Bool
@@ -19,73 +18,67 @@ eq_z (negsuc m) (pos n) = false
 eq_z (negsuc m) (negsuc n) = m == n
 
 -- a bus line: first of all, and buses ascend
-abbrev pub to_bus : ℤ → Stage → Option Stage
-to_bus i stage.Start = Some (stage.Bus i)
-to_bus i (stage.Bus last) = cond (int_lt last i) (Some (stage.Bus i)) None
-to_bus i stage.Lambda = None
-to_bus i (stage.Constraint c) = None
-to_bus i (stage.Outage c b) = None
-to_bus i (stage.Run last) = None
-to_bus i stage.Done = None
+abbrev pub bus_after : ℤ → Option Kind → Bool
+bus_after i None = true
+bus_after i (Some (kind.Bus last)) = int_lt last i
+bus_after i (Some k) = false
 
 -- the line of lambda: behind the buses
-abbrev pub to_lambda : Stage → Option Stage
-to_lambda stage.Start = Some stage.Lambda
-to_lambda (stage.Bus last) = Some stage.Lambda
-to_lambda stage.Lambda = None
-to_lambda (stage.Constraint c) = None
-to_lambda (stage.Outage c b) = None
-to_lambda (stage.Run last) = None
-to_lambda stage.Done = None
+abbrev pub lambda_after : Option Kind → Bool
+lambda_after None = true
+lambda_after (Some (kind.Bus last)) = true
+lambda_after (Some k) = false
 
 -- a constraint line: behind lambda, and constraints ascend
-abbrev pub to_constraint : ℤ → Stage → Option Stage
-to_constraint i stage.Start = Some (stage.Constraint i)
-to_constraint i (stage.Bus last) = Some (stage.Constraint i)
-to_constraint i stage.Lambda = Some (stage.Constraint i)
-to_constraint i (stage.Constraint c) = cond (int_lt c i) (Some (stage.Constraint i)) None
-to_constraint i (stage.Outage c b) = cond (int_lt c i) (Some (stage.Constraint i)) None
-to_constraint i (stage.Run last) = None
-to_constraint i stage.Done = None
+abbrev pub constraint_after : ℤ → Option Kind → Bool
+constraint_after i None = true
+constraint_after i (Some (kind.Bus last)) = true
+constraint_after i (Some kind.Lambda) = true
+constraint_after i (Some (kind.Constraint last)) = int_lt last i
+constraint_after i (Some (kind.Outage last b)) = int_lt last i
+constraint_after i (Some k) = false
 
 -- an outage line: behind its own constraint, and buses ascend
-abbrev pub to_outage : ℤ → ℤ → Stage → Option Stage
-to_outage i b stage.Start = None
-to_outage i b (stage.Bus last) = None
-to_outage i b stage.Lambda = None
-to_outage i b (stage.Constraint c) = cond (eq_z c i) (Some (stage.Outage i b)) None
-to_outage i b (stage.Outage c last) = cond (eq_z c i && int_lt last b) (Some (stage.Outage i b)) None
-to_outage i b (stage.Run last) = None
-to_outage i b stage.Done = None
+abbrev pub outage_after : ℤ → ℤ → Option Kind → Bool
+outage_after i b (Some (kind.Constraint own)) = eq_z own i
+outage_after i b (Some (kind.Outage own last)) = eq_z own i && int_lt last b
+outage_after i b last = false
 
 -- a run line: behind the constraints, and runs ascend
-abbrev pub to_run : ℤ → Stage → Option Stage
-to_run i stage.Start = Some (stage.Run i)
-to_run i (stage.Bus last) = Some (stage.Run i)
-to_run i stage.Lambda = Some (stage.Run i)
-to_run i (stage.Constraint c) = Some (stage.Run i)
-to_run i (stage.Outage c b) = Some (stage.Run i)
-to_run i (stage.Run last) = cond (int_lt last i) (Some (stage.Run i)) None
-to_run i stage.Done = None
+abbrev pub run_after : ℤ → Option Kind → Bool
+run_after i (Some (kind.Run last)) = int_lt last i
+run_after i (Some kind.End) = false
+run_after i last = true
 
--- the last line
-abbrev pub to_end : Stage → Option Stage
-to_end stage.Start = Some stage.Done
-to_end (stage.Bus last) = Some stage.Done
-to_end stage.Lambda = Some stage.Done
-to_end (stage.Constraint c) = Some stage.Done
-to_end (stage.Outage c b) = Some stage.Done
-to_end (stage.Run last) = Some stage.Done
-to_end stage.Done = None
+-- whether the line is the last
+abbrev pub is_end : Option Kind → Bool
+is_end (Some kind.End) = true
+is_end last = false
+
+-- the last line: behind any other
+abbrev pub end_after : Option Kind → Bool
+end_after last = not (is_end last)
+
+-- whether a line of the kind may come, by the kind of the line before it
+abbrev pub may_follow : Option Kind → Kind → Bool
+may_follow last (kind.Bus i) = bus_after i last
+may_follow last kind.Lambda = lambda_after last
+may_follow last (kind.Constraint i) = constraint_after i last
+may_follow last (kind.Outage i b) = outage_after i b last
+may_follow last (kind.Run i) = run_after i last
+may_follow last kind.End = end_after last
+
+-- before the first line
+abbrev pub start : Stage
+start = record { last = None }
+
+-- after a line of the kind
+abbrev pub behind : Kind → Stage
+behind k = record { last = Some k }
 
 -- the stage that a kind of line leads to, where it may come
 abbrev pub follows : Stage → Kind → Option Stage
-follows s (kind.Bus i) = to_bus i s
-follows s kind.Lambda = to_lambda s
-follows s (kind.Constraint i) = to_constraint i s
-follows s (kind.Outage i b) = to_outage i b s
-follows s (kind.Run i) = to_run i s
-follows s kind.End = to_end s
+follows s k = cond (may_follow s.last k) (Some (behind k)) None
 
 abbrev pub kind_of : Row → Kind
 kind_of (row.Bus b) = kind.Bus b.bus
@@ -101,13 +94,10 @@ blank_bus b =
     eq_z b.hub_bus (pos 0) && (eq_z b.zone (pos 0) && (
     (not b.day_ahead_live && eq_z b.day_ahead_load (pos 0)) && (not b.real_time_live && eq_z b.real_time_load (pos 0))))
 
+-- whether a line says nothing: a bus line may, and no other does
 abbrev pub blank_row : Row → Bool
 blank_row (row.Bus b) = blank_bus b
-blank_row (row.Lambda z) = false
-blank_row (row.Constraint i p) = false
-blank_row (row.Outage i b) = false
-blank_row (row.Run i s a r) = false
-blank_row (row.End n) = false
+blank_row r = false
 
 abbrev pub misplaced : Spot
 misplaced = spot Order 0
@@ -122,10 +112,4 @@ next s r = cond (blank_row r) (Err misplaced) (in_order (follows s (kind_of r)))
 
 -- nothing may come any more
 abbrev pub finished : Stage → Bool
-finished stage.Start = false
-finished (stage.Bus last) = false
-finished stage.Lambda = false
-finished (stage.Constraint c) = false
-finished (stage.Outage c b) = false
-finished (stage.Run last) = false
-finished stage.Done = true
+finished s = is_end s.last

@@ -5,11 +5,10 @@ use Rattle.faults.specs.declared.Fault.{Fault}
 use Rattle.faults.specs.declared.Why.TheVariants.{Ending}
 use Rattle.faults.specs.Faults.{fault, in_line}
 use Rattle.hour.specs.Hour.{Hour, fresh}
-use Rattle.saved_rows.specs.Order.{next, finished}
+use Rattle.saved_rows.specs.Order.{start, next, finished}
 use Rattle.saved_rows.specs.Entering.{enter}
 use Rattle.saved_rows.specs.declared.row.Row.{Row}
 use Rattle.saved_rows.specs.declared.stage.Stage.{Stage}
-use Rattle.saved_rows.specs.declared.stage.Stage.TheVariants as stage
 
 -- how far a text is read: its stage, and the hour so far
 pub record Place : Type 0 where
@@ -45,7 +44,7 @@ run_rows p n (r ∷ rs) = cond (finished p.stage) (Err (misended n)) (onward (in
 
 -- before the first line
 abbrev pub begin : Place
-begin = place stage.Start fresh
+begin = place start fresh
 
 -- what taking a line did: the place after it, or a fault and the hour as it was
 abbrev pub Takes : Result Place Spot → Hour → Hour → Result Stage Spot → Type 0

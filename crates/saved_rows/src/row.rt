@@ -7,7 +7,7 @@ use crate::stage::Kind;
 use hour::records::Bus;
 
 // The numbers of a bus line. Loads are in tenths of a megawatt.
-#[derive(Clone, Copy)]
+#[derive(Clone, Copy, PartialEq, Eq, Debug, Default)]
 pub struct BusRow {
     pub bus: i64,
     pub hub_bus: i64,
@@ -18,7 +18,7 @@ pub struct BusRow {
     pub real_time_load: i64,
 }
 
-#[derive(Clone, Copy)]
+#[derive(Clone, Copy, PartialEq, Eq, Debug)]
 pub enum Row {
     Bus(BusRow),
     Lambda {
@@ -64,12 +64,10 @@ impl BusRow {
     fn is_blank(self) -> bool
         ensures { result ≡ blank_bus self }
     {
-        self.hub_bus == 0
-            && self.zone == 0
-            && !self.day_ahead_live
-            && self.day_ahead_load == 0
-            && !self.real_time_live
-            && self.real_time_load == 0
+        self == BusRow {
+            bus: self.bus,
+            ..BusRow::default()
+        }
     }
 }
 

@@ -6,7 +6,7 @@ use crate::row::Row;
 use faults::{Spot, Why};
 
 // What the order of lines goes by: the kind of a line, and the numbers that ascend.
-#[derive(Clone, Copy)]
+#[derive(Clone, Copy, PartialEq, Eq, Debug)]
 pub enum Kind {
     Bus(i64),
     Lambda,
@@ -16,16 +16,10 @@ pub enum Kind {
     End,
 }
 
-// How far a text is read, by the line just read.
-#[derive(Clone, Copy)]
-pub enum Stage {
-    Start,
-    Bus(i64),
-    Lambda,
-    Constraint(i64),
-    Outage(i64, i64),
-    Run(i64),
-    Done,
+// How far a text is read: the kind of the line just read, and none before the first.
+#[derive(Clone, Copy, PartialEq, Eq, Debug, Default)]
+pub struct Stage {
+    last: Option<Kind>,
 }
 
 impl Stage {
@@ -33,36 +27,26 @@ impl Stage {
     pub fn is_done(self) -> bool
         ensures { result ≡ finished self }
     {
-        match self {
-            Stage::Done => true,
-            _ => false,
-        }
+        self.last == Some(Kind::End)
     }
 
     // The stage after a line of the kind, where it may come now.
     pub fn after(self, kind: Kind) -> Option<Stage>
         ensures { result ≡ follows self kind }
     {
-        match (kind, self) {
-            (Kind::Bus(bus), Stage::Start) => Some(Stage::Bus(bus)),
-            (Kind::Bus(bus), Stage::Bus(last)) if last < bus => Some(Stage::Bus(bus)),
-            (Kind::Lambda, Stage::Start | Stage::Bus(_)) => Some(Stage::Lambda),
-            (Kind::Constraint(c), Stage::Start | Stage::Bus(_) | Stage::Lambda) => Some(
-                Stage::Constraint(c),
-            ),
-            (Kind::Constraint(c), Stage::Constraint(last) | Stage::Outage(last, _)) if last < c =>
-                Some(Stage::Constraint(c)),
-            (Kind::Outage(c, bus), Stage::Constraint(own)) if own == c => Some(Stage::Outage(
-                c, bus,
-            )),
-            (Kind::Outage(c, bus), Stage::Outage(own, last)) if own == c && last < bus => Some(
-                Stage::Outage(c, bus),
-            ),
-            (Kind::Run(run), Stage::Run(last)) if last < run => Some(Stage::Run(run)),
-            (Kind::Run(_), Stage::Run(_) | Stage::Done) => None,
-            (Kind::Run(run), _) => Some(Stage::Run(run)),
-            (Kind::End, Stage::Done) => None,
-            (Kind::End, _) => Some(Stage::Done),
+        let next = Some(Stage { last: Some(kind) });
+        match (kind, self.last) {
+            (_, Some(Kind::End)) => None,
+            (Kind::Bus(_), None) => next,
+            (Kind::Bus(bus), Some(Kind::Bus(last))) if last < bus => next,
+            (Kind::Lambda, None | Some(Kind::Bus(_))) => next,
+            (Kind::Constraint(_), None | Some(Kind::Bus(_) | Kind::Lambda)) => next,
+            (Kind::Constraint(c), Some(Kind::Constraint(last))) if last < c => next,
+            (Kind::Constraint(c), Some(Kind::Outage(last, _))) if last < c => next,
+            (Kind::Outage(c, _), Some(Kind::Constraint(own))) if own == c => next,
+            (Kind::Outage(c, bus), Some(Kind::Outage(own, last))) if own == c && last < bus => next,
+            (Kind::Run(run), Some(Kind::Run(last))) if run <= last => None,
+            (Kind::Run(_) | Kind::End, _) => next,
             _ => None,
         }
     }
@@ -71,21 +55,14 @@ impl Stage {
     pub fn next(self, row: Row) -> Result<Stage, Spot>
         ensures { result ≡ next self row }
     {
-        if row.is_blank() {
-            return Err(out_of_order());
-        }
-        match self.after(row.kind()) {
-            Some(stage) => Ok(stage),
-            None => Err(out_of_order()),
-        }
-    }
-}
-
-fn out_of_order() -> Spot
-    ensures { result ≡ misplaced }
-{
-    Spot {
-        why: Why::Order,
-        field: 0,
+        let next = if row.is_blank() {
+            None
+        } else {
+            self.after(row.kind())
+        };
+        next.ok_or(Spot {
+            why: Why::Order,
+            field: 0,
+        })
     }
 }
