@@ -33,7 +33,7 @@ pub fn marked(set: BusSet, bus: u8, on: bool) -> BusSet
     new
 }
 
-// Four words are written as four below, which no loop or `from_fn` says more plainly.
+// Below, four words are written as four: a `from_fn` needs clauses at its closure that are longer, and a `sum` no bound that the check finds.
 
 // The buses that are in both sets.
 pub fn both(a: BusSet, b: BusSet) -> BusSet

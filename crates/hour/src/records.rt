@@ -18,7 +18,7 @@ pub struct Standing {
     pub load: u16,
 }
 
-// A bus. Its hub bus is 1 to 155 and its load zone 1 to 16, and 0 stands for none.
+// A bus. Its hub bus is 1 to 155 and its load zone 1 to 16, and 0 stands for none, as in the calls and the texts.
 #[derive(Clone, Copy, PartialEq, Eq, Debug, Default)]
 pub struct Bus {
     pub hub_bus: u8,

@@ -24,7 +24,7 @@ impl Book {
         Ok(())
     }
 
-    // Replaces one constraint; the others stay as they are.
+    // Replaces one constraint; the others stay as they are. Each table has a call of its own, which keeps its own part of the invariant.
     fn replace_constraint(&mut self, i: usize, constraint: Option<Constraint>)
         requires place { i < 32 }
         requires sound { when_some constraint_sound constraint ≡ true }

@@ -29,7 +29,7 @@ impl Book {
     {
         let mut set = empty();
         for (i, bus) in self.buses.iter().enumerate() {
-            // A place of the table is below 256, so the cast is proved to lose nothing.
+            // A place of the table is below 256, so the cast is proved to lose nothing; the checker wants an array from a call in a place of its own.
             let next = marked(set, i as u8, test(bus));
             set = next;
         }

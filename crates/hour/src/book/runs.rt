@@ -11,7 +11,7 @@ use bounds::{is_within, up_to};
 use refusals::Refusal;
 
 impl Book {
-    // Replaces one run; the others stay as they are.
+    // Replaces one run; the others stay as they are. Beside its own limits it keeps the sum of the seconds, as no other table has to.
     fn replace_run(&mut self, i: usize, run: Option<Run>)
         requires place { i < 16 }
         requires sound { when_some run_sound run ≡ true }
@@ -51,10 +51,7 @@ impl Book {
         if seconds < 1 {
             return Err(Refusal::SecondsOutside);
         }
-        if !is_within(reserve_adder, MOST_ADDER) {
-            return Err(Refusal::AdderOutside);
-        }
-        if !is_within(reliability_adder, MOST_ADDER) {
+        if !is_within(reserve_adder, MOST_ADDER) || !is_within(reliability_adder, MOST_ADDER) {
             return Err(Refusal::AdderOutside);
         }
         let left = MOST_SECONDS - self.other_seconds(i);
