@@ -2,8 +2,10 @@
 ghost use Rattle.std.specs.Prelude.{◌≡◌};
 ghost use Rattle.weighting.specs.Views.{view};
 ghost use Rattle.weighting.specs.Meanings.{Meaning, WeightsOf};
+ghost use Rattle.weighting.specs.Weights.{Weighs};
 
 use crate::cases::Case;
+use crate::weights::Weights;
 
 // Asking changes nothing and is never refused. The meaning carries the laws: a dead bus weighs 0, the total is the sum
 // of the weights and at most 2,560,000, and cases that are alike get the same weights.
@@ -24,5 +26,14 @@ pub trait Weighting {
             sum += all[bus];
         }
         sum
+    }
+
+    // The weights and the total.
+    fn weigh(&self, case: &Case) -> Weights
+        ensures { Weighs (meaning self.now) (view case.now) result }
+    {
+        let weights = self.weights(case);
+        let total = self.total(case);
+        Weights { weights, total }
     }
 }
