@@ -16,24 +16,19 @@ pub trait Weighting {
     fn weights(&self, case: &Case) -> [u32; 256]
         ensures { WeightsOf (meaning self.now) (view case.now) result };
 
-    // The total of the weights.
-    fn total(&self, case: &Case) -> u32
-        ensures { result ≡ (meaning self.now).total (view case.now) }
-    {
-        let all = self.weights(case);
-        let mut sum: u32 = 0;
-        for bus in 0..256usize {
-            sum += all[bus];
-        }
-        sum
-    }
-
-    // The weights and the total.
+    // The weights and their total.
     fn weigh(&self, case: &Case) -> Weights
         ensures { Weighs (meaning self.now) (view case.now) result }
     {
         let weights = self.weights(case);
-        let total = self.total(case);
+        let total = weights.iter().sum();
         Weights { weights, total }
+    }
+
+    // The total of the weights.
+    fn total(&self, case: &Case) -> u32
+        ensures { result ≡ (meaning self.now).total (view case.now) }
+    {
+        self.weigh(case).total
     }
 }
