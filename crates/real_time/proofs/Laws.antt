@@ -14,7 +14,7 @@ use Rattle.hour.specs.declared.book.Book.{Book}
 use Rattle.hour.specs.declared.records.Run.{Run}
 use Rattle.weighting.specs.SumLaws.{sum_same}
 use Rattle.weighting.specs.Meanings.{Meaning}
-use Rattle.weighting.specs.declared.points.Weights.{Weights}
+use Rattle.weighting.specs.declared.weights.Weights.{Weights}
 use Rattle.weighting.proofs.Weighed.{total_alike}
 use Rattle.real_time.specs.Weights.{base_view, weight_in, Light, BaseWeights}
 use Rattle.real_time.specs.Prices.{interval, floor_price, run_part, hour_sum, cents_of, base_sum, price_in, real_time_price}

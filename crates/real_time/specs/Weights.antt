@@ -7,7 +7,7 @@ use Rattle.hour.specs.declared.book.Book.{Book}
 use Rattle.weighting.specs.Sums.{sum_below}
 use Rattle.weighting.specs.Views.{View, view_of}
 use Rattle.weighting.specs.Meanings.{Meaning, WeightsOf, most_total}
-use Rattle.weighting.specs.declared.points.Weights.{Weights}
+use Rattle.weighting.specs.declared.weights.Weights.{Weights}
 
 -- the base case of the real-time market, with that market's loads
 abbrev pub base_view : Book → View

@@ -16,8 +16,8 @@ use numbers::half_up;
 use posting::Posting;
 use refusals::Refusal;
 use weighting::cases::Case;
-use weighting::points::Weights;
 use weighting::weightings::Weighting;
+use weighting::weights::Weights;
 
 // The seconds of the interval, which the entered runs must fill.
 const INTERVAL: u16 = 900;
@@ -92,14 +92,7 @@ fn cents(sum: i128, total: u32) -> Option<i64>
 fn base_weights<W: Weighting>(book: &Book, weighting: &W) -> Weights
     ensures { BaseWeights (W.Weighting.meaning weighting.now) book.now result }
 {
-    let case = Case {
-        book,
-        market: Market::RealTime,
-        live: book.base_live(Market::RealTime),
-    };
-    let weights = weighting.weights(&case);
-    let total = weighting.total(&case);
-    Weights { weights, total }
+    weighting.weigh(&Case::base(book, Market::RealTime))
 }
 
 // Whether the entered runs fill the interval.
