@@ -1,6 +1,6 @@
 -- What `halfUp` gives: the one nearest number, halves toward the higher.
-use Rattle.std.proofs.Common.{◌≡◌, ℕ, ◌*◌, ◌<◌, ℤ, pos, ◌+ℤ◌, ◌-ℤ◌, ◌*ℤ◌, ◌≤ℤ◌, ◌<ℤ◌, sym, refl, ap, ◌∙◌, arith}
-use lib.IntN.{*ℤ_comm}
+use Rattle.std.proofs.Common.{◌≡◌, ℕ, zero, suc, ◌*◌, ◌<◌, ℤ, pos, ◌+ℤ◌, ◌-ℤ◌, ◌*ℤ◌, ◌≤ℤ◌, ◌<ℤ◌, sym, refl, ap, ◌∙◌, arith}
+use lib.IntN.{*ℤ_comm, zero-*ℤ}
 use Rattle.std.specs.Int.{int_div_euclid, int_rem_euclid}
 use Rattle.std.proofs.lemmas.Int.{ints}
 use Rattle.numbers.specs.Rounding.{half_up, Nearest, HalvesRise}
@@ -55,3 +55,8 @@ above_half n d h more =
     let q = int_div_euclid n (pos d) in
     let f : (q +ℤ pos 1) *ℤ pos d ≡ (q *ℤ pos d) +ℤ (pos 1 *ℤ pos d) = I.add_mul q (pos 1) (pos d) in
     record { low = omega (arith, ints, parts n d h, f); high = omega (arith, ints, parts n d h, rest_high n d h, f) }
+
+-- only by a divisor that is not 0
+pub nearest_some : (n : ℤ) (d : ℕ) (r : ℤ) → Nearest n d r → 0 < d
+nearest_some n zero r near = absurd (omega (arith, ints, *ℤ_comm r (pos 0), zero-*ℤ r, near.low, near.high))
+nearest_some n (suc d) r near = omega arith
