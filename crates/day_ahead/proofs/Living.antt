@@ -11,10 +11,10 @@ use Rattle.posting.specs.Grids.{Grid}
 use Rattle.weighting.specs.Views.{View, Alike}
 use Rattle.weighting.specs.Meanings.{Meaning}
 use Rattle.weighting.proofs.Weighed.{total_alike}
-use Rattle.day_ahead.specs.Sums.{sum_z}
+use Rattle.weighted_sums.specs.Sums.{sum_z}
 use Rattle.day_ahead.specs.Prices.{base_case, case_under, shadow_price, weighted_factors, congestion, contribution_at, contribution, price_over, price_at, day_ahead_price}
 use Rattle.day_ahead.specs.Facts.{Posted, LiveFacts}
-use Rattle.day_ahead.proofs.Sums.{sum_z_same}
+use Rattle.weighted_sums.proofs.Sums.{sum_z_same}
 
 module _ (m : Meaning) where
   -- a factor counts only where there is weight

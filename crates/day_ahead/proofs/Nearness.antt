@@ -13,10 +13,10 @@ use Rattle.weighting.specs.Views.{View}
 use Rattle.weighting.specs.Meanings.{Meaning}
 use Rattle.refusals.specs.declared.Refusal.{Refusal}
 use Rattle.refusals.specs.declared.Refusal.TheVariants.{NoWeight}
-use Rattle.day_ahead.specs.Sums.{sum_z}
+use Rattle.weighted_sums.specs.Sums.{sum_z}
 use Rattle.day_ahead.specs.Prices.{base_case, case_under, shadow_price, weighted_factors, contribution_at, contribution, in_cents, price_at, day_ahead_price}
 use Rattle.day_ahead.specs.Exact.{Fraction, plus, with_term, exactly, deviation, NearPrice, NearExact}
-use Rattle.day_ahead.proofs.Bounds.{within_more, within_add, within_sub, within_mul, within_pos}
+use Rattle.weighted_sums.proofs.Withins.{within_more, within_add, within_sub, within_mul, within_pos}
 
 -- twice the sum s and twice the fraction a, both times its bottom, are at most n bottoms apart
 record Near (n : ℕ) (s : ℤ) (a : Fraction) : Type 0 where
@@ -60,7 +60,7 @@ near_plus n s x a d l w =
       above = omega (arith, above);
       close = subst (Within (suc n * (m * d))) (sym parts)
           (within_more (n * m * d + d * m) (suc n * (m * d)) _ (omega (arith, suc-mul n (m * d), mul_comm m d, native.Mathlib.Nat.mul_assoc n m d))
-          (within_add (n * m * d) (d * m) _ _ (within_mul (n * m) d (pos 2 *ℤ ((s *ℤ pos m) -ℤ a.top)) (pos d) w.close (within_pos d)) (within_mul d m (pos 2 *ℤ ((r *ℤ pos d) -ℤ x)) (pos m) one (within_pos m))));
+          (within_add (n * m * d) (d * m) _ _ (within_mul (n * m) d (pos 2 *ℤ ((s *ℤ pos m) -ℤ a.top)) (pos d) w.close (within_pos d d (omega arith))) (within_mul d m (pos 2 *ℤ ((r *ℤ pos d) -ℤ x)) (pos m) one (within_pos m m (omega arith)))));
     }
 
 module _ (m : Meaning) (p : Grid) where
@@ -115,7 +115,7 @@ near_price l s v a e w =
     record {
       bottom_above_zero = w.above;
       close = subst (Within (1000032 * m)) (sym parts)
-          (within_more (1000000 * m + 32 * m) (1000032 * m) _ (omega arith) (within_sub (1000000 * m) (32 * m) _ _ (within_mul 1000000 m (pos 2 *ℤ x) (pos m) one (within_pos m)) w.close));
+          (within_more (1000000 * m + 32 * m) (1000032 * m) _ (omega arith) (within_sub (1000000 * m) (32 * m) _ _ (within_mul 1000000 m (pos 2 *ℤ x) (pos m) one (within_pos m m (omega arith))) w.close));
     }
 
 pub near_exact : (m : Meaning) (p : Grid) (book : Book) (r : Result ℤ Refusal) → r ≡ day_ahead_price m p book → NearExact m p book r

@@ -1,9 +1,10 @@
 -- How far from 0 sums and products of whole numbers are.
-use Rattle.std.proofs.Common.{ℕ, zero, suc, ◌+◌, ◌*◌, ◌<◌, ◌≤◌, ℤ, pos, negsuc, ◌+ℤ◌, ◌-ℤ◌, ◌*ℤ◌, ⊎_elim, add-mul, arith}
+use Rattle.std.proofs.Common.{◌≡◌, true, ℕ, zero, suc, ◌+◌, ◌*◌, ◌<◌, ◌≤◌, ℤ, pos, negsuc, ◌+ℤ◌, ◌-ℤ◌, ◌*ℤ◌, ⊎_elim, add-mul, arith}
 use Rattle.std.proofs.lemmas.Int.{ints}
 use Rattle.std.specs.Prelude.{unsigned_abs}
 use Rattle.std.proofs.lemmas.Nat.{mul-le}
-use Rattle.std.proofs.lemmas.Bool.{cases_lt}
+use Rattle.std.proofs.lemmas.Bool.{cases_lt, leb-true}
+use Rattle.bounds.specs.Bounds.{within}
 use Rattle.numbers.specs.Rounding.{Nearest}
 use Rattle.posting.specs.Grids.{Within}
 use Rattle.weighting.specs.Sums.{sum_below}
@@ -53,3 +54,7 @@ within_factor h c d r some l w = record { low = omega (arith, ints, small r w); 
 pub nearest_within : (h k c d : ℕ) (n r : ℤ) → 0 < c → c ≤ d → Within k n → k + d ≤ c * h → Nearest n d r → Within h r
 nearest_within h k c d n r some l w m near =
     within_factor h c d r some l (record { low = omega (arith, ints, near.low, near.high); high = omega (arith, ints, near.low, near.high) })
+
+pub within_by : (z : ℤ) (n : ℕ) → within z n ≡ true → Within n z
+within_by (pos a) n h = let e = leb-true a n h in record { low = omega (arith, ints); high = omega (arith, ints) }
+within_by (negsuc a) n h = let e = leb-true (suc a) n h in record { low = omega (arith, ints); high = omega (arith, ints) }
