@@ -63,10 +63,8 @@ impl<W: Weighting, P: Posting> Pricing<'_, W, P> {
         let case = Case::under(self.book, k)?;
         let weights = self.weighting.weigh(&case);
         let sum = weighted_sum(&weights, self.posting, usize::from(k));
-        half_up(
-            i128::from(sum) * i128::from(constraint.shadow_price),
-            weights.total,
-        )
+        let product = i128::from(sum) * i128::from(constraint.shadow_price);
+        half_up(product, weights.total)
     }
 }
 
