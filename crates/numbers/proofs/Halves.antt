@@ -1,4 +1,4 @@
--- What `halfUp` gives: the one nearest number, halves toward the higher.
+-- What `half_up` gives: the one nearest number, halves toward the higher.
 use Rattle.std.proofs.Common.{◌≡◌, ℕ, zero, suc, ◌*◌, ◌<◌, ℤ, pos, ◌+ℤ◌, ◌-ℤ◌, ◌*ℤ◌, ◌≤ℤ◌, ◌<ℤ◌, sym, refl, ap, ◌∙◌, arith}
 use lib.IntN.{*ℤ_comm, zero-*ℤ}
 use Rattle.std.specs.Int.{int_div_euclid, int_rem_euclid}
