@@ -1,6 +1,3 @@
-pub mod Sums
-pub mod Bounds
-pub mod Factors
 pub mod Living
 pub mod Congestion
 pub mod Nearness

@@ -11,27 +11,18 @@ use Rattle.posting.specs.Grids.{Grid}
 use Rattle.weighting.specs.Views.{View, Alike}
 use Rattle.weighting.specs.Meanings.{Meaning}
 use Rattle.weighting.proofs.Weighed.{total_alike}
-use Rattle.day_ahead.specs.Sums.{sum_z}
+use Rattle.weighted_sums.specs.Sums.{sum_z}
 use Rattle.day_ahead.specs.Prices.{base_case, case_under, shadow_price, weighted_factors, congestion, contribution_at, contribution, price_over, price_at, day_ahead_price}
 use Rattle.day_ahead.specs.Facts.{Posted, LiveFacts}
-use Rattle.day_ahead.proofs.Sums.{sum_z_same}
+use Rattle.weighted_sums.proofs.Sums.{sum_z_same}
+use Rattle.weighted_sums.proofs.Weighted.{weighted_same}
 
 module _ (m : Meaning) where
-  -- a factor counts only where there is weight
-  factors_alike : (p q : Grid) (v u : View) (k : ℕ) → Alike v u → ((b : ℕ) → b < 256 → 0 < m.weight v b → p.at b k ≡ q.at b k) → weighted_factors m p v k ≡ weighted_factors m q u k
-  factors_alike p q v u k like same =
-      sum_z_same (λ b. pos (m.weight v b) *ℤ p.at b k) (λ b. pos (m.weight u b) *ℤ q.at b k) 256 (λ b h.
-      let weights = m.alike_weigh_the_same v u like b h in
-      ⊎_elim
-      (λ (z : m.weight v b ≡ 0). ap (λ (n : ℕ). pos n *ℤ p.at b k) z ∙ zero-*ℤ (p.at b k) ∙ sym (zero-*ℤ (q.at b k)) ∙ ap (λ (n : ℕ). pos n *ℤ q.at b k) (sym z ∙ weights))
-      (λ (z : m.weight v b ≡ 0 → ⊥). ap (λ (x : ℤ). pos (m.weight v b) *ℤ x) (same b h (omega arith)) ∙ ap (λ (n : ℕ). pos n *ℤ q.at b k) weights)
-      (cases_eq (m.weight v b) 0))
-
   pub congestion_alike : (p q : Grid) (v u : View) (k : ℕ) (price : ℤ) → Alike v u → ((b : ℕ) → b < 256 → 0 < m.weight v b → p.at b k ≡ q.at b k) →
       congestion m p v k price ≡ congestion m q u k price
   congestion_alike p q v u k price like same =
       ap (λ (t : ℕ). cond (eqb t 0) (pos 0) (half_up (weighted_factors m p v k *ℤ price) t)) (total_alike m v u like)
-      ∙ ap (λ (n : ℤ). cond (eqb (m.total u) 0) (pos 0) (half_up (n *ℤ price) (m.total u))) (factors_alike p q v u k like same)
+      ∙ ap (λ (n : ℤ). cond (eqb (m.total u) 0) (pos 0) (half_up (n *ℤ price) (m.total u))) (weighted_same (m.weight v) (m.weight u) p q k (m.alike_weigh_the_same v u like) same)
 
   pub at_alike : (p q : Grid) (v u : View) (k : ℕ) (o : Option ℤ) → ((s : ℤ) × (o ≡ Some s) → Alike v u) → ((s : ℤ) × (o ≡ Some s) → (b : ℕ) → b < 256 → 0 < m.weight v b → p.at b k ≡ q.at b k) →
       contribution_at m p v k o ≡ contribution_at m q u k o

@@ -21,10 +21,10 @@ use Rattle.weighting.specs.Views.{View, Alike}
 use Rattle.weighting.specs.Meanings.{Meaning}
 use Rattle.weighting.proofs.Weighed.{total_alike}
 use Rattle.refusals.specs.declared.Refusal.TheVariants.{NoWeight}
-use Rattle.day_ahead.specs.Sums.{sum_z}
+use Rattle.weighted_sums.specs.Sums.{sum_z}
 use Rattle.day_ahead.specs.Prices.{base_case, case_under, shadow_of, shadow_price, weighted_factors, congestion, contribution_at, contribution, price_over, price_at, day_ahead_price}
 use Rattle.day_ahead.specs.Moves.{PostedMoved, times_price, bus_congestion, lowered, Moved}
-use Rattle.day_ahead.proofs.Sums.{sum_z_same, sum_z_sub}
+use Rattle.weighted_sums.proofs.Sums.{sum_z_same, sum_z_sub}
 use Rattle.day_ahead.proofs.Living.{at_alike}
 
 -- each factor less q takes q times the total off the sum

@@ -13,10 +13,10 @@ use Rattle.weighting.specs.Views.{View}
 use Rattle.weighting.specs.Meanings.{Meaning}
 use Rattle.refusals.specs.declared.Refusal.{Refusal}
 use Rattle.refusals.specs.declared.Refusal.TheVariants.{NoWeight}
-use Rattle.day_ahead.specs.Sums.{sum_z}
+use Rattle.weighted_sums.specs.Sums.{sum_z}
 use Rattle.day_ahead.specs.Prices.{base_case, case_under, shadow_price, weighted_factors, contribution_at, contribution, in_cents, price_at, day_ahead_price}
 use Rattle.day_ahead.specs.Exact.{Fraction, plus, with_term, exactly, deviation, NearPrice, NearExact}
-use Rattle.day_ahead.proofs.Bounds.{within_more, within_add, within_sub, within_mul, within_pos}
+use Rattle.weighted_sums.proofs.Withins.{within_more, within_add, within_sub, within_mul, within_pos}
 
 -- twice the sum s and twice the fraction a, both times its bottom, are at most n bottoms apart
 record Near (n : ℕ) (s : ℤ) (a : Fraction) : Type 0 where
@@ -29,20 +29,11 @@ near_more n s a w = record {
   close = within_more (n * a.bottom) (suc n * a.bottom) (pos 2 *ℤ ((s *ℤ pos a.bottom) -ℤ a.top)) (omega (arith, suc-mul n a.bottom)) w.close;
 }
 
-regroup : (a b c d : ℤ) → (a +ℤ b) -ℤ (c +ℤ d) ≡ (a -ℤ c) +ℤ (b -ℤ d)
-regroup a b c d = omega (arith, ints)
-
 -- the sum and the fraction with one term more
 split : (s r x t : ℤ) (m d : ℕ) → ((s +ℤ r) *ℤ pos (m * d)) -ℤ ((t *ℤ pos d) +ℤ (x *ℤ pos m)) ≡ (((s *ℤ pos m) -ℤ t) *ℤ pos d) +ℤ (((r *ℤ pos d) -ℤ x) *ℤ pos m)
 split s r x t m d =
-    let u : (s +ℤ r) *ℤ pos (m * d) ≡ ((s *ℤ pos m) *ℤ pos d) +ℤ ((r *ℤ pos d) *ℤ pos m) =
-    I.add_mul s r (pos (m * d))
-    ∙ ap (λ (y : ℤ). y +ℤ (r *ℤ pos (m * d))) (sym (I.mul_assoc s (pos m) (pos d)))
-    ∙ ap (λ (y : ℤ). ((s *ℤ pos m) *ℤ pos d) +ℤ y) (ap (λ (n : ℕ). r *ℤ pos n) (mul_comm m d) ∙ sym (I.mul_assoc r (pos d) (pos m))) in
-    ap (λ (y : ℤ). y -ℤ ((t *ℤ pos d) +ℤ (x *ℤ pos m))) u
-    ∙ regroup ((s *ℤ pos m) *ℤ pos d) ((r *ℤ pos d) *ℤ pos m) (t *ℤ pos d) (x *ℤ pos m)
-    ∙ ap (λ (y : ℤ). y +ℤ (((r *ℤ pos d) *ℤ pos m) -ℤ (x *ℤ pos m))) (sym (I.sub_mul (s *ℤ pos m) t (pos d)))
-    ∙ ap (λ (y : ℤ). (((s *ℤ pos m) -ℤ t) *ℤ pos d) +ℤ y) (sym (I.sub_mul (r *ℤ pos d) x (pos m)))
+    omega (arith, ints, I.add_mul s r (pos (m * d)), I.mul_assoc s (pos m) (pos d), I.mul_assoc r (pos d) (pos m), ap (λ (n : ℕ). r *ℤ pos n) (mul_comm m d),
+    I.sub_mul (s *ℤ pos m) t (pos d), I.sub_mul (r *ℤ pos d) x (pos m))
 
 near_plus : (n : ℕ) (s x : ℤ) (a : Fraction) (d : ℕ) → 0 < d → Near n s a → Near (suc n) (s +ℤ half_up x d) (plus a x d)
 near_plus n s x a d l w =
@@ -51,16 +42,13 @@ near_plus n s x a d l w =
     let e = half_up_nearest x d l in
     let one : Within d (pos 2 *ℤ ((r *ℤ pos d) -ℤ x)) = record { low = omega (arith, ints, I.mul_sub (pos 2) (r *ℤ pos d) x, e.high); high = omega (arith, ints, I.mul_sub (pos 2) (r *ℤ pos d) x, e.low) } in
     let parts : pos 2 *ℤ (((s +ℤ r) *ℤ pos (m * d)) -ℤ ((a.top *ℤ pos d) +ℤ (x *ℤ pos m))) ≡ ((pos 2 *ℤ ((s *ℤ pos m) -ℤ a.top)) *ℤ pos d) +ℤ ((pos 2 *ℤ ((r *ℤ pos d) -ℤ x)) *ℤ pos m) =
-    ap (λ (y : ℤ). pos 2 *ℤ y) (split s r x a.top m d)
-    ∙ I.mul_add (pos 2) (((s *ℤ pos m) -ℤ a.top) *ℤ pos d) (((r *ℤ pos d) -ℤ x) *ℤ pos m)
-    ∙ ap (λ (y : ℤ). y +ℤ (pos 2 *ℤ (((r *ℤ pos d) -ℤ x) *ℤ pos m))) (sym (I.mul_assoc (pos 2) ((s *ℤ pos m) -ℤ a.top) (pos d)))
-    ∙ ap (λ (y : ℤ). ((pos 2 *ℤ ((s *ℤ pos m) -ℤ a.top)) *ℤ pos d) +ℤ y) (sym (I.mul_assoc (pos 2) ((r *ℤ pos d) -ℤ x) (pos m))) in
+    omega (arith, ints, split s r x a.top m d, I.mul_assoc (pos 2) ((s *ℤ pos m) -ℤ a.top) (pos d), I.mul_assoc (pos 2) ((r *ℤ pos d) -ℤ x) (pos m)) in
     let above = mul-le 1 1 m d (omega (arith, w.above)) (omega (arith, l)) in
     record {
       above = omega (arith, above);
       close = subst (Within (suc n * (m * d))) (sym parts)
           (within_more (n * m * d + d * m) (suc n * (m * d)) _ (omega (arith, suc-mul n (m * d), mul_comm m d, native.Mathlib.Nat.mul_assoc n m d))
-          (within_add (n * m * d) (d * m) _ _ (within_mul (n * m) d (pos 2 *ℤ ((s *ℤ pos m) -ℤ a.top)) (pos d) w.close (within_pos d)) (within_mul d m (pos 2 *ℤ ((r *ℤ pos d) -ℤ x)) (pos m) one (within_pos m))));
+          (within_add (n * m * d) (d * m) _ _ (within_mul (n * m) d (pos 2 *ℤ ((s *ℤ pos m) -ℤ a.top)) (pos d) w.close (within_pos d d (omega arith))) (within_mul d m (pos 2 *ℤ ((r *ℤ pos d) -ℤ x)) (pos m) one (within_pos m m (omega arith)))));
     }
 
 module _ (m : Meaning) (p : Grid) where
@@ -93,15 +81,9 @@ answer_is : (b : Bool) (x v : ℤ) → cond b refused (granted x) ≡ granted v 
 answer_is false x v e = cc
 answer_is true x v e = let z : ◌≡◌ {A = ℕ} 0 1 = cc in absurd (omega arith)
 
-regroup_last : (q a b t : ℤ) → q -ℤ (a -ℤ t) ≡ (q -ℤ (a -ℤ b)) -ℤ (b -ℤ t)
-regroup_last q a b t = omega (arith, ints)
-
 last_split : (l s v t : ℤ) (m : ℕ) → (pos 1000000 *ℤ (v *ℤ pos m)) -ℤ ((l *ℤ pos m) -ℤ t) ≡ (((v *ℤ pos 1000000) -ℤ (l -ℤ s)) *ℤ pos m) -ℤ ((s *ℤ pos m) -ℤ t)
 last_split l s v t m =
-    ap (λ (y : ℤ). y -ℤ ((l *ℤ pos m) -ℤ t)) (sym (I.mul_assoc (pos 1000000) v (pos m)) ∙ ap (λ (y : ℤ). y *ℤ pos m) (*ℤ_comm (pos 1000000) v))
-    ∙ regroup_last ((v *ℤ pos 1000000) *ℤ pos m) (l *ℤ pos m) (s *ℤ pos m) t
-    ∙ ap (λ (y : ℤ). (((v *ℤ pos 1000000) *ℤ pos m) -ℤ y) -ℤ ((s *ℤ pos m) -ℤ t)) (sym (I.sub_mul l s (pos m)))
-    ∙ ap (λ (y : ℤ). y -ℤ ((s *ℤ pos m) -ℤ t)) (sym (I.sub_mul (v *ℤ pos 1000000) (l -ℤ s) (pos m)))
+    omega (arith, ints, I.mul_assoc (pos 1000000) v (pos m), ap (λ (y : ℤ). y *ℤ pos m) (*ℤ_comm (pos 1000000) v), I.sub_mul l s (pos m), I.sub_mul (v *ℤ pos 1000000) (l -ℤ s) (pos m))
 
 near_price : (l s v : ℤ) (a : Fraction) → v ≡ in_cents l s → Near 32 s a → NearPrice l v a
 near_price l s v a e w =
@@ -110,12 +92,11 @@ near_price l s v a e w =
     let x = (v *ℤ pos 1000000) -ℤ (l -ℤ s) in
     let one : Within 1000000 (pos 2 *ℤ x) = record { low = omega (arith, ints, k.high); high = omega (arith, ints, k.low) } in
     let parts : pos 2 *ℤ deviation l v a ≡ ((pos 2 *ℤ x) *ℤ pos m) -ℤ (pos 2 *ℤ ((s *ℤ pos m) -ℤ a.top)) =
-    ap (λ (y : ℤ). pos 2 *ℤ y) (last_split l s v a.top m) ∙ I.mul_sub (pos 2) (x *ℤ pos m) ((s *ℤ pos m) -ℤ a.top)
-    ∙ ap (λ (y : ℤ). y -ℤ (pos 2 *ℤ ((s *ℤ pos m) -ℤ a.top))) (sym (I.mul_assoc (pos 2) x (pos m))) in
+    omega (arith, ints, last_split l s v a.top m, I.mul_assoc (pos 2) x (pos m)) in
     record {
       bottom_above_zero = w.above;
       close = subst (Within (1000032 * m)) (sym parts)
-          (within_more (1000000 * m + 32 * m) (1000032 * m) _ (omega arith) (within_sub (1000000 * m) (32 * m) _ _ (within_mul 1000000 m (pos 2 *ℤ x) (pos m) one (within_pos m)) w.close));
+          (within_more (1000000 * m + 32 * m) (1000032 * m) _ (omega arith) (within_sub (1000000 * m) (32 * m) _ _ (within_mul 1000000 m (pos 2 *ℤ x) (pos m) one (within_pos m m (omega arith))) w.close));
     }
 
 pub near_exact : (m : Meaning) (p : Grid) (book : Book) (r : Result ℤ Refusal) → r ≡ day_ahead_price m p book → NearExact m p book r

@@ -1,4 +1,4 @@
-pub mod Sums
+pub mod Bounds
 pub mod Prices
 pub mod Facts
 pub mod Exact

@@ -6,7 +6,7 @@ use Rattle.posting.specs.Grids.{Grid, Small, SmallIn}
 use Rattle.posting.specs.Meanings.{reference_grid}
 use Rattle.weighting.specs.Meanings.{Meaning}
 use Rattle.refusals.specs.declared.Refusal.{Refusal}
-use Rattle.day_ahead.specs.Sums.{sum_z}
+use Rattle.weighted_sums.specs.Sums.{sum_z}
 use Rattle.day_ahead.specs.Prices.{case_under, shadow_price, day_ahead_price}
 use Rattle.day_ahead.specs.Facts.{Posted}
 

@@ -11,7 +11,8 @@ use Rattle.weighting.specs.Views.{View, view_of}
 use Rattle.weighting.specs.Meanings.{Meaning}
 use Rattle.refusals.specs.declared.Refusal.{Refusal}
 use Rattle.refusals.specs.declared.Refusal.TheVariants.{NoLambda, NoWeight}
-use Rattle.day_ahead.specs.Sums.{sum_z}
+use Rattle.weighted_sums.specs.Sums.{sum_z}
+use Rattle.weighted_sums.specs.Weighted.{weighted_sum}
 
 -- fine units to the cent
 abbrev pub fine_units : ℕ
@@ -34,7 +35,7 @@ shadow_price book k = shadow_of (constraint_at (entries book) k)
 
 -- the sum over buses of weight times factor, with the factors of constraint k
 abbrev pub weighted_factors : Meaning → Grid → View → ℕ → ℤ
-weighted_factors m factors v k = sum_z (λ b. pos (m.weight v b) *ℤ factors.at b k) 256
+weighted_factors m factors v k = weighted_sum (m.weight v) factors k
 
 -- the average factor times the shadow price, in fine units; 0 where no bus has weight
 abbrev pub congestion : Meaning → Grid → View → ℕ → ℤ → ℤ

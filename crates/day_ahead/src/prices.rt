@@ -1,16 +1,14 @@
 // The day-ahead price in cents, or why there is none.
 ghost use Rattle.std.specs.Prelude.{◌≡◌};
-ghost use Rattle.day_ahead.specs.Prices.{base_case, day_ahead_price};
+ghost use Rattle.day_ahead.specs.Prices.{day_ahead_price};
 ghost use Rattle.day_ahead.specs.Facts.{LiveFactsDecide};
 ghost use Rattle.day_ahead.specs.Exact.{NearExact};
 ghost use Rattle.day_ahead.specs.Moves.{ReferenceStays, PostedReferenceStays};
 
-use crate::contributions::{cents, contributions};
+use crate::contributions::Pricing;
 use hour::book::Book;
-use hour::records::Market;
 use posting::Posting;
 use refusals::Refusal;
-use weighting::cases::Case;
 use weighting::weightings::Weighting;
 
 // The price of a weighting, with the posting's numbers as factors. Lambda is looked at first, then the weight of the base case.
@@ -25,29 +23,10 @@ pub fn day_ahead_price<W: Weighting, P: Posting>(
     ensures reference { ReferenceStays (W.Weighting.meaning weighting.now) (P.Posting.grid posting.now) book.now result }
     ensures posted_reference { PostedReferenceStays (W.Weighting.meaning weighting.now) (P.Posting.grid posting.now) book.now result }
 {
-    price(book, weighting, posting)
-}
-
-fn price<W: Weighting, P: Posting>(book: &Book, weighting: &W, posting: &P) -> Result<i64, Refusal>
-    ensures { result ≡ day_ahead_price (W.Weighting.meaning weighting.now) (P.Posting.grid posting.now) book.now }
-{
-    let Some(lambda) = book.lambda() else {
-        return Err(Refusal::NoLambda);
-    };
-    if base_total(book, weighting) == 0 {
-        return Err(Refusal::NoWeight);
-    }
-    Ok(cents(lambda, contributions(book, weighting, posting)))
-}
-
-// The total of the base case.
-fn base_total<W: Weighting>(book: &Book, weighting: &W) -> u32
-    ensures { result ≡ (W.Weighting.meaning weighting.now).total (base_case book.now) }
-{
-    let live = book.base_live(Market::DayAhead);
-    weighting.total(&Case {
+    let pricing = Pricing {
         book,
-        market: Market::DayAhead,
-        live,
-    })
+        weighting,
+        posting,
+    };
+    pricing.price()
 }

@@ -5,7 +5,8 @@ ghost use Rattle.desk.specs.Weights.{kind_name};
 use hour::book::Book;
 use refusals::Refusal;
 use std::fmt;
-use weighting::points::{Kind, Point, Weights, weigh};
+use weighting::points::{Kind, Point, weigh};
+use weighting::weights::Weights;
 
 // A question for weights, in the base case or under a constraint, and its answer from the book.
 #[derive(Drop)]

@@ -1,12 +1,11 @@
--- What `halfUp` gives: the one nearest number, halves toward the higher.
-use Rattle.std.proofs.Common.{◌≡◌, ℕ, ◌*◌, ◌<◌, ◌≤◌, ℤ, pos, negsuc, ◌+ℤ◌, ◌-ℤ◌, ◌*ℤ◌, ◌≤ℤ◌, ◌<ℤ◌, sym, refl, ap, ◌∙◌, mul-le-mul_left, arith, SFits}
-use lib.IntN.{*ℤ_comm}
-use mir.Syntax.{w128}
-use Rattle.std.specs.Int.{int_div_euclid}
+-- What `half_up` gives: the one nearest number, halves toward the higher.
+use Rattle.std.proofs.Common.{◌≡◌, ℕ, zero, suc, ◌*◌, ◌<◌, ℤ, pos, ◌+ℤ◌, ◌-ℤ◌, ◌*ℤ◌, ◌≤ℤ◌, ◌<ℤ◌, sym, refl, ap, ◌∙◌, arith}
+use lib.IntN.{*ℤ_comm, zero-*ℤ}
+use Rattle.std.specs.Int.{int_div_euclid, int_rem_euclid}
 use Rattle.std.proofs.lemmas.Int.{ints}
 use Rattle.numbers.specs.Rounding.{half_up, Nearest, HalvesRise}
 use Rattle.numbers.proofs.Integers as I
-use Rattle.numbers.proofs.Floors.{floor, floor_only}
+use Rattle.numbers.proofs.Floors.{floor, floor_only, parts, rest_low, rest_high}
 
 twice : (r : ℤ) (d : ℕ) → r *ℤ pos (2 * d) ≡ pos 2 *ℤ (r *ℤ pos d)
 twice r d = sym (I.mul_assoc r (pos 2) (pos d)) ∙ ap (λ (x : ℤ). x *ℤ pos d) (*ℤ_comm r (pos 2)) ∙ I.mul_assoc (pos 2) r (pos d)
@@ -46,17 +45,18 @@ pub halves_rise : HalvesRise
 unfolding half_up
 halves_rise = record { minus_half = refl; half = refl; zero_stays = refl }
 
--- from the quotient and the rest: with less than half of the divisor left, the quotient
-pub rest_below : (n : ℤ) (d : ℕ) (q s : ℤ) → n ≡ (q *ℤ pos d) +ℤ s → pos 0 ≤ℤ s → (pos 2 *ℤ s) <ℤ pos d → Nearest n d q
-rest_below n d q s e low less = record { low = omega (arith, ints); high = omega (arith, ints) }
+-- with less than half of the divisor left, the quotient
+pub below_half : (n : ℤ) (d : ℕ) → 0 < d → (pos 2 *ℤ int_rem_euclid n (pos d)) <ℤ pos d → Nearest n d (int_div_euclid n (pos d))
+below_half n d h less = record { low = omega (arith, ints, parts n d h, rest_low n d); high = omega (arith, ints, parts n d h) }
 
 -- with half of it or more, the next
-pub rest_above : (n : ℤ) (d : ℕ) (q s : ℤ) → n ≡ (q *ℤ pos d) +ℤ s → s <ℤ pos d → pos d ≤ℤ (pos 2 *ℤ s) → Nearest n d (q +ℤ pos 1)
-rest_above n d q s e high more =
+pub above_half : (n : ℤ) (d : ℕ) → 0 < d → pos d ≤ℤ (pos 2 *ℤ int_rem_euclid n (pos d)) → Nearest n d (int_div_euclid n (pos d) +ℤ pos 1)
+above_half n d h more =
+    let q = int_div_euclid n (pos d) in
     let f : (q +ℤ pos 1) *ℤ pos d ≡ (q *ℤ pos d) +ℤ (pos 1 *ℤ pos d) = I.add_mul q (pos 1) (pos d) in
-    record { low = omega (arith, ints); high = omega (arith, ints) }
+    record { low = omega (arith, ints, parts n d h, f); high = omega (arith, ints, parts n d h, rest_high n d h, f) }
 
--- a quotient by 2 or more has room for the next
-pub next_fits : (n : ℤ) (d : ℕ) (q s : ℤ) → n ≡ (q *ℤ pos d) +ℤ s → pos 0 ≤ℤ s → 2 ≤ d → SFits w128 n → SFits w128 q → SFits w128 (q +ℤ pos 1)
-next_fits n d (pos a) s e low two fits quotient = let m = mul-le-mul_left a two in omega (arith, ints)
-next_fits n d (negsuc a) s e low two fits quotient = omega (arith, ints)
+-- only by a divisor that is not 0
+pub nearest_some : (n : ℤ) (d : ℕ) (r : ℤ) → Nearest n d r → 0 < d
+nearest_some n zero r near = absurd (omega (arith, ints, *ℤ_comm r (pos 0), zero-*ℤ r, near.low, near.high))
+nearest_some n (suc d) r near = omega arith

@@ -1,10 +1,10 @@
 -- Laws of real-time prices.
-use Rattle.std.proofs.Common.{◌≡◌, ℕ, zero, suc, ◌*◌, ◌<◌, true, false, cond, eqb, ℤ, pos, ◌+ℤ◌, ◌*ℤ◌, ◌≤ℤ◌, Some, None, Ok, Err, Option, Result, sym, refl, ap, ◌∙◌, subst, ap₂, arith}
-use lib.IntN.{zero-*ℤ}
+use Rattle.std.proofs.Common.{◌≡◌, ℕ, ◌*◌, ◌<◌, cond, eqb, ℤ, pos, ◌+ℤ◌, ◌*ℤ◌, ◌≤ℤ◌, Some, None, Ok, Err, Option, Result, MatchOption, sym, refl, ap, ◌∙◌, subst, ⊎_elim, ap₂, arith}
+use Rattle.std.specs.Option.{ok_or}
 use Rattle.std.specs.Int.{int_max}
 use Rattle.std.proofs.lemmas.Int.{ints, clamps}
 use Rattle.std.proofs.lemmas.List.{ext_get_or}
-use Rattle.std.proofs.lemmas.Bool.{cond-true, cond-false, eq-eqb, ne_eqb}
+use Rattle.std.proofs.lemmas.Bool.{cases_eq, cond_both, cond-true, cond-false, eq-eqb, ne_eqb}
 use Rattle.numbers.specs.Rounding.{half_up}
 use Rattle.numbers.proofs.Halves.{half_up_nearest}
 use Rattle.posting.specs.Grids.{Grid}
@@ -12,16 +12,17 @@ use Rattle.hour.specs.Hour.{entries, run_at}
 use Rattle.hour.specs.Sound.{total_seconds}
 use Rattle.hour.specs.declared.book.Book.{Book}
 use Rattle.hour.specs.declared.records.Run.{Run}
-use Rattle.weighting.specs.SumLaws.{sum_same}
-use Rattle.weighting.specs.Meanings.{Meaning}
-use Rattle.weighting.specs.declared.points.Weights.{Weights}
+use Rattle.weighting.specs.Meanings.{Meaning, WeightsOf}
+use Rattle.weighting.specs.declared.weights.Weights.{Weights}
 use Rattle.weighting.proofs.Weighed.{total_alike}
-use Rattle.real_time.specs.Weights.{base_view, weight_in, Light, BaseWeights}
+use Rattle.real_time.specs.Weights.{base_view}
+use Rattle.weighted_sums.specs.Weighted.{weight_in}
+use Rattle.weighted_sums.proofs.Weighted.{weighted_same}
 use Rattle.real_time.specs.Prices.{interval, floor_price, run_part, hour_sum, cents_of, base_sum, price_in, real_time_price}
-use Rattle.real_time.specs.Laws.{NearestAbove, SameFacts}
+use Rattle.real_time.specs.Laws.{NearestAbove, NearestCent, SameFacts, SameFactsSamePrice}
 use Rattle.refusals.specs.declared.Refusal.{Refusal}
 use Rattle.refusals.specs.declared.Refusal.TheVariants.{SecondsShort, NoWeight}
-use Rattle.real_time.proofs.Sums.{sum_z_same}
+use Rattle.weighted_sums.proofs.Sums.{sum_z_same}
 
 not_below : (x : ℤ) → floor_price ≤ℤ int_max x floor_price
 not_below x = omega (arith, ints, clamps)
@@ -34,16 +35,11 @@ cents_nearest sum total some = record {
   not_below = not_below (half_up sum (interval * total));
 }
 
-term_same : (m n : ℕ) (x y : ℤ) → m ≡ n → (0 < m → x ≡ y) → pos m *ℤ x ≡ pos n *ℤ y
-term_same zero n x y e h = zero-*ℤ x ∙ sym (zero-*ℤ y) ∙ ap (λ (k : ℕ). pos k *ℤ y) e
-term_same (suc m) n x y e h = ap (λ (z : ℤ). pos (suc m) *ℤ z) (h (omega arith)) ∙ ap (λ (k : ℕ). pos k *ℤ y) e
-
 module _ (w u : ℕ → ℕ) (same : (b : ℕ) → b < 256 → w b ≡ u b) (p q : Grid) where
   part_same : (t k : ℕ) (o : Option Run) → ((run : Run) → o ≡ Some run → (b : ℕ) → b < 256 → 0 < w b → p.at b k ≡ q.at b k) → run_part w p t k o ≡ run_part u q t k o
   part_same t k None h = refl
   part_same t k (Some run) h =
-      ap (λ (x : ℤ). (x +ℤ (pos t *ℤ (run.reserve_adder +ℤ run.reliability_adder))) *ℤ pos run.seconds)
-      (sum_z_same (λ b. pos (w b) *ℤ p.at b k) (λ b. pos (u b) *ℤ q.at b k) 256 (λ b l. term_same (w b) (u b) (p.at b k) (q.at b k) (same b l) (h run refl b l)))
+      ap (λ (x : ℤ). (x +ℤ (pos t *ℤ (run.reserve_adder +ℤ run.reliability_adder))) *ℤ pos run.seconds) (weighted_same w u p q k same (h run refl))
 
   -- the same weights, total and runs, and the same prices where a bus weighs in an entered run
   pub hour_same : (t s : ℕ) (f g : ℕ → Option Run) → t ≡ s → ((k : ℕ) → k < 16 → f k ≡ g k)
@@ -72,40 +68,38 @@ same_facts m p q a b same =
 
 -- what the program finds out about a book, and the price that it stands for
 module _ (m : Meaning) (p : Grid) (book : Book) where
-  pub not_900 : eqb (total_seconds (entries book).runs) interval ≡ false → real_time_price m p book ≡ Err SecondsShort
-  not_900 other = cond-false (eqb (total_seconds (entries book).runs) interval) _ _ other
+  pub unfilled : (total_seconds (entries book).runs ≡ interval → ⊥) → real_time_price m p book ≡ Err SecondsShort
+  unfilled other = cond-false (eqb (total_seconds (entries book).runs) interval) _ _ (ne_eqb _ interval other)
 
-  module _ (w : Weights) (based : BaseWeights m book w) where
-    pub light : Light w
-    light =
-        let v = base_view book in
-        record {
-          sum = omega (arith, sum_same (weight_in w) (m.weight v) 256 based.0, m.total_is_the_sum v, m.total_is_bounded v);
-          total = omega (arith, based.1, m.total_is_bounded v);
-        }
+  module _ (w : Weights) (weighs : WeightsOf m (base_view book) w.weights) (total : w.total ≡ m.total (base_view book))
+      (sum : ℤ) (summed : sum ≡ hour_sum (weight_in w) p w.total (run_at (entries book))) (filled : total_seconds (entries book).runs ≡ interval) where
+    sum_is : sum ≡ base_sum m p book
+    sum_is =
+        summed
+        ∙ hour_same (weight_in w) (m.weight (base_view book)) weighs p p w.total (m.total (base_view book))
+        (run_at (entries book)) (run_at (entries book)) total (λ k l. refl) (λ k l run e b low some. refl)
 
-    module _ (sum : ℤ) (summed : sum ≡ hour_sum (weight_in w) p w.total (run_at (entries book))) (filled : eqb (total_seconds (entries book).runs) interval ≡ true) where
-      sum_is : sum ≡ base_sum m p book
-      sum_is =
-          summed
-          ∙ hour_same (weight_in w) (m.weight (base_view book)) based.0 p p w.total (m.total (base_view book))
-          (run_at (entries book)) (run_at (entries book)) based.1 (λ k l. refl) (λ k l run e b low some. refl)
+    filled_is : real_time_price m p book ≡ price_in m p book
+    filled_is = cond-true (eqb (total_seconds (entries book).runs) interval) (price_in m p book) (Err SecondsShort) (eq-eqb _ interval filled)
 
-      pub no_weight : w.total ≡ 0 → real_time_price m p book ≡ Err NoWeight
-      no_weight none =
-          let t = m.total (base_view book) in
-          cond-true (eqb (total_seconds (entries book).runs) interval) (price_in m p book) (Err SecondsShort) filled ∙ cond-true (eqb t 0) (Err NoWeight) (Ok (cents_of (base_sum m p book) t)) (eq-eqb t 0 (sym based.1 ∙ none))
+    -- the cents, or the refusal of no weight
+    pub priced_is : (r : Option ℤ) → MatchOption r (w.total ≡ 0) (λ price. (0 < w.total) × (price ≡ cents_of sum w.total)) → ok_or r NoWeight ≡ real_time_price m p book
+    priced_is None none = sym (filled_is ∙ cond-true (eqb (m.total (base_view book)) 0) (Err NoWeight) _ (eq-eqb _ 0 (sym total ∙ none)))
+    priced_is (Some price) found =
+        ap Ok (found.1 ∙ ap₂ cents_of sum_is total)
+        ∙ sym (filled_is ∙ cond-false (eqb (m.total (base_view book)) 0) (Err NoWeight) (Ok (cents_of (base_sum m p book) (m.total (base_view book)))) (ne_eqb _ 0 (λ z. omega (arith, total, found.0))))
 
-      module _ (some : 0 < w.total) (price : ℤ) (rounded : price ≡ cents_of sum w.total) where
-        cents_is : price ≡ cents_of (base_sum m p book) (m.total (base_view book))
-        cents_is = rounded ∙ ap₂ cents_of sum_is based.1
+  -- an answer that is the price shows both laws
+  pub nearest_cent : (r : Result ℤ Refusal) → r ≡ real_time_price m p book → NearestCent m p book r
+  nearest_cent r is = subst (NearestCent m p book) (sym is)
+      (cond_both (eqb (total_seconds (entries book).runs) interval) (price_in m p book) (Err SecondsShort) (NearestCent m p book)
+      (λ _. ⊎_elim
+      (λ (none : m.total (base_view book) ≡ 0). subst (NearestCent m p book) (sym (cond-true (eqb (m.total (base_view book)) 0) (Err NoWeight) _ (eq-eqb _ 0 none))) tt)
+      (λ (some : m.total (base_view book) ≡ 0 → ⊥).
+      subst (NearestCent m p book) (sym (cond-false (eqb (m.total (base_view book)) 0) (Err NoWeight) (Ok (cents_of (base_sum m p book) (m.total (base_view book)))) (ne_eqb _ 0 some)))
+      (cents_nearest (base_sum m p book) (m.total (base_view book)) (omega arith)))
+      (cases_eq (m.total (base_view book)) 0))
+      (λ _. tt))
 
-        pub granted : real_time_price m p book ≡ Ok price
-        granted =
-            let t = m.total (base_view book) in
-            cond-true (eqb (total_seconds (entries book).runs) interval) (price_in m p book) (Err SecondsShort) filled
-            ∙ cond-false (eqb t 0) (Err NoWeight) (Ok (cents_of (base_sum m p book) t)) (ne_eqb t 0 (λ z. omega (arith, based.1)))
-            ∙ ap Ok (sym cents_is)
-
-        pub nearest : NearestAbove (base_sum m p book) (interval * m.total (base_view book)) price
-        nearest = subst (NearestAbove (base_sum m p book) (interval * m.total (base_view book))) (sym cents_is) (cents_nearest (base_sum m p book) (m.total (base_view book)) (omega (arith, based.1)))
+  pub facts_decide : (r : Result ℤ Refusal) → r ≡ real_time_price m p book → SameFactsSamePrice m p book r
+  facts_decide r is q b same = sym (same_facts m p q book b same) ∙ sym is

@@ -1,4 +1,2 @@
-pub mod Sums
-pub mod Bounds
-pub mod Widths
+pub mod Parts
 pub mod Laws

@@ -1,4 +1,3 @@
-pub mod Sums
 pub mod Bounds
 pub mod Weights
 pub mod Prices

@@ -8,7 +8,8 @@ use Rattle.hour.specs.Sound.{total_seconds}
 use Rattle.hour.specs.declared.book.Book.{Book}
 use Rattle.hour.specs.declared.records.Run.{Run}
 use Rattle.weighting.specs.Meanings.{Meaning}
-use Rattle.real_time.specs.Sums.{sum_z}
+use Rattle.weighted_sums.specs.Sums.{sum_z}
+use Rattle.weighted_sums.specs.Weighted.{weighted_sum}
 use Rattle.real_time.specs.Weights.{base_view}
 use Rattle.refusals.specs.declared.Refusal.{Refusal}
 use Rattle.refusals.specs.declared.Refusal.TheVariants.{SecondsShort, NoWeight}
@@ -24,7 +25,7 @@ floor_price = neg_ℤ (pos 25100)
 module _ (weight : ℕ → ℕ) (prices : Grid) where
   -- the sum over the buses of weight times the price that the run in column k posted
   abbrev pub weighted_price_sum : ℕ → ℤ
-  weighted_price_sum k = sum_z (λ b. pos (weight b) *ℤ prices.at b k) 256
+  weighted_price_sum k = weighted_sum weight prices k
 
   module _ (total : ℕ) where
     -- with the run's adders on every unit of weight, for each of its seconds; a run that is not entered has no part

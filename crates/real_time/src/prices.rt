@@ -1,13 +1,13 @@
 // The real-time price: the weighted price sum of each entered run, with its adders, times its seconds, over the interval's seconds and
 // the total weight.
-ghost use Rattle.std.specs.Prelude.{◌≡◌, ◌*◌, ◌<◌, ◌≤◌, true, pos, ◌+ℤ◌, ◌*ℤ◌, MatchOption, ◌==◌};
+ghost use Rattle.std.specs.Prelude.{◌≡◌, ◌*◌, ◌<◌, ◌≤◌, true, pos, ◌+ℤ◌, ◌*ℤ◌, MatchOption};
 ghost use Rattle.posting.specs.Grids.{Within};
 ghost use Rattle.hour.specs.Hour.{entries, run_at};
-ghost use Rattle.hour.specs.Sound.{run_sound, total_seconds};
+ghost use Rattle.hour.specs.Sound.{when_some, run_sound};
 ghost use Rattle.weighting.specs.Meanings.{most_total};
-ghost use Rattle.real_time.specs.Bounds.{most_weighted, most_part, most_sum};
-ghost use Rattle.real_time.specs.Weights.{Light, weight_in, BaseWeights};
-ghost use Rattle.real_time.specs.Prices.{interval, weighted_price_sum, run_part, hour_sum, cents_of, real_time_price};
+ghost use Rattle.weighted_sums.specs.Weighted.{weight_in, most_weighted};
+ghost use Rattle.real_time.specs.Bounds.{most_part, most_sum};
+ghost use Rattle.real_time.specs.Prices.{run_part, hour_sum, cents_of, real_time_price};
 ghost use Rattle.real_time.specs.Laws.{NearestCent, SameFactsSamePrice};
 
 use hour::book::Book;
@@ -15,9 +15,10 @@ use hour::records::{Market, Run};
 use numbers::half_up;
 use posting::Posting;
 use refusals::Refusal;
+use weighted_sums::weighted_sum;
 use weighting::cases::Case;
-use weighting::points::Weights;
 use weighting::weightings::Weighting;
+use weighting::weights::Weights;
 
 // The seconds of the interval, which the entered runs must fill.
 const INTERVAL: u16 = 900;
@@ -25,20 +26,7 @@ const INTERVAL: u16 = 900;
 // No price is below this many cents.
 const FLOOR: i64 = -25_100;
 
-// The sum over the buses of weight times posted price. At most 2,560,000 times 2,000,000, so 64 bits do.
-fn weighted_price_sum<P: Posting>(weights: &Weights, posting: &P, column: usize) -> i64
-    requires { Light weights.now }
-    ensures value { result ≡ weighted_price_sum (weight_in weights.now) (P.Posting.grid posting.now) column }
-    ensures bound { Within most_weighted result }
-{
-    let mut sum: i64 = 0;
-    for bus in 0..256usize {
-        sum += weights.weights[bus] as i64 * posting.number(bus, column) as i64;
-    }
-    sum
-}
-
-// What a run adds to the hour sum.
+// What a run adds to the hour sum, from its weighted price sum and the total weight.
 fn weighed_run(prices: i64, total: u32, run: Run) -> i128
     requires prices { Within most_weighted prices }
     requires total { total ≤ most_total }
@@ -46,34 +34,34 @@ fn weighed_run(prices: i64, total: u32, run: Run) -> i128
     ensures value { result ≡ (prices +ℤ (pos total *ℤ (run.reserve_adder +ℤ run.reliability_adder))) *ℤ pos run.seconds }
     ensures bound { Within most_part result }
 {
-    let adders = (run.reserve_adder + run.reliability_adder) as i128;
-    (prices as i128 + total as i128 * adders) * run.seconds as i128
+    let adders = i128::from(run.reserve_adder + run.reliability_adder);
+    (i128::from(prices) + i128::from(total) * adders) * i128::from(run.seconds)
 }
 
 // The part of the run in a column; 0 where it is not entered.
-fn run_part<P: Posting>(book: &Book, weights: &Weights, posting: &P, column: u8) -> i128
-    requires { Light weights.now }
-    ensures value { result ≡ run_part (weight_in weights.now) (P.Posting.grid posting.now) weights.now.total column (run_at (entries book.now) column) }
+fn run_part<P: Posting>(weights: &Weights, posting: &P, column: usize, run: Option<Run>) -> i128
+    requires { when_some run_sound run ≡ true }
+    ensures value { result ≡ run_part (weight_in weights.now) (P.Posting.grid posting.now) weights.now.total column run }
     ensures bound { Within most_part result }
 {
-    match book.run(column) {
-        Some(run) => {
-            let prices = weighted_price_sum(weights, posting, column as usize);
-            weighed_run(prices, weights.total, run)
-        }
-        None => 0,
-    }
+    run.map_or(
+        0,
+        |run: Run|
+            requires { run_sound run ≡ true }
+        { weighed_run(weighted_sum(weights, posting, column), weights.total, run) },
+    )
 }
 
 // The parts of all runs.
 fn hour_sum<P: Posting>(book: &Book, weights: &Weights, posting: &P) -> i128
-    requires { Light weights.now }
     ensures value { result ≡ hour_sum (weight_in weights.now) (P.Posting.grid posting.now) weights.now.total (run_at (entries book.now)) }
     ensures bound { Within most_sum result }
 {
-    let mut sum: i128 = 0;
-    for column in 0..16u8 {
-        sum += run_part(book, weights, posting, column);
+    let runs = book.runs().as_slice();
+    let mut sum = 0;
+    // A chain with `sum` would leave the bound of each signed step to be shown; the loop has it from the number of runs.
+    for (column, run) in runs.iter().enumerate() {
+        sum += run_part(weights, posting, column, *run);
     }
     sum
 }
@@ -84,29 +72,9 @@ fn cents(sum: i128, total: u32) -> Option<i64>
     requires total { total ≤ most_total }
     ensures { MatchOption result (total ≡ 0) (λ p. (0 < total) × (p ≡ cents_of sum total)) }
 {
-    let nearest = half_up(sum, INTERVAL as u32 * total)?;
+    let nearest = half_up(sum, u32::from(INTERVAL) * total)?;
+    // No cast by `try_from`: that the nearest cent fits 64 bits is proved here, and a refusal would have no name.
     Some((nearest as i64).max(FLOOR))
-}
-
-// The weights of the real-time base case.
-fn base_weights<W: Weighting>(book: &Book, weighting: &W) -> Weights
-    ensures { BaseWeights (W.Weighting.meaning weighting.now) book.now result }
-{
-    let case = Case {
-        book,
-        market: Market::RealTime,
-        live: book.base_live(Market::RealTime),
-    };
-    let weights = weighting.weights(&case);
-    let total = weighting.total(&case);
-    Weights { weights, total }
-}
-
-// Whether the entered runs fill the interval.
-fn fills_interval(book: &Book) -> bool
-    ensures { result ≡ (total_seconds (entries book.now).runs == interval) }
-{
-    book.total_seconds() == INTERVAL
 }
 
 // The real-time price in cents.
@@ -119,13 +87,10 @@ pub fn real_time_price<W: Weighting, P: Posting>(
     ensures nearest { NearestCent (W.Weighting.meaning weighting.now) (P.Posting.grid posting.now) book.now result }
     ensures facts { SameFactsSamePrice (W.Weighting.meaning weighting.now) (P.Posting.grid posting.now) book.now result }
 {
-    if !fills_interval(book) {
+    if book.total_seconds() != INTERVAL {
         return Err(Refusal::SecondsShort);
     }
-    let weights = base_weights(book, weighting);
+    let weights = weighting.weigh(&Case::base(book, Market::RealTime));
     let sum = hour_sum(book, &weights, posting);
-    match cents(sum, weights.total) {
-        Some(price) => Ok(price),
-        None => Err(Refusal::NoWeight),
-    }
+    cents(sum, weights.total).ok_or(Refusal::NoWeight)
 }

@@ -1,3 +1,4 @@
+pub mod Sums
 pub mod Members
 pub mod Shares
 pub mod Marks

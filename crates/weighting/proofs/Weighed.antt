@@ -9,7 +9,7 @@ use Rattle.weighting.specs.SumLaws.{sum_same}
 use Rattle.weighting.specs.Views.{View, Alike, view_of}
 use Rattle.weighting.specs.Meanings.{Meaning, WeightsOf}
 use Rattle.weighting.specs.Weighed.{live_in, LiveSetOf, WeighedIn}
-use Rattle.weighting.specs.declared.points.Weights.{Weights}
+use Rattle.weighting.specs.declared.weights.Weights.{Weights}
 
 -- alike views have the same total
 pub total_alike : (m : Meaning) (v u : View) → Alike v u → m.total v ≡ m.total u

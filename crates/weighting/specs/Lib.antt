@@ -2,6 +2,7 @@ pub mod Sums
 pub mod BookLimits
 pub mod Views
 pub mod Meanings
+pub mod Weights
 pub mod SumLaws
 pub mod Points
 pub mod Owns

@@ -1,6 +1,6 @@
 -- What a weighting sees of a case: which buses are live, and the hub bus, load zone and load of each.
 use Rattle.std.specs.Prelude.{◌≡◌, ℕ, ◌<◌, ◌≤◌, Bool, true, nat_eq}
-use Rattle.bus_set.specs.Sets.{member, count_below}
+use Rattle.bus_set.specs.Sets.{member, SetOf, count_below}
 use Rattle.hour.specs.Limits.{most_load, most_buses}
 use Rattle.hour.specs.Hour.{entries, bus_at}
 use Rattle.hour.specs.declared.records.Market.{Market}
@@ -37,3 +37,10 @@ view_of book m live = record {
 
 abbrev pub view : Case → View
 view c = view_of c.book.now c.market (member c.live)
+
+-- the case of a book in a market, with these buses live; weightings see it as the view of these
+pub record CaseOf (book : Book) (m : Market) (live : ℕ → Bool) (c : Case) : Type 0 where
+  pub book_is : c.book.now ≡ book
+  pub market_is : c.market ≡ m
+  pub live_is : SetOf live c.live
+  pub alike : Alike (view c) (view_of book m live)

@@ -19,7 +19,7 @@ use Rattle.weighting.specs.Ties.{tie_meaning}
 use Rattle.weighting.specs.declared.points.Kind.{Kind}
 use Rattle.weighting.specs.declared.points.Kind.TheVariants as kind
 use Rattle.weighting.specs.declared.points.Point.{Point}
-use Rattle.weighting.specs.declared.points.Weights.{Weights}
+use Rattle.weighting.specs.declared.weights.Weights.{Weights}
 use Rattle.weighting.specs.declared.zones.Zone.{Zone}
 use Rattle.weighting.specs.declared.ties.Tie.{Tie}
 

@@ -1,7 +1,10 @@
 // A case: a book, a market and a set of live buses. Any set will do, not only a base case or one under a constraint.
-ghost use Rattle.std.specs.Prelude.{◌≡◌, ◌≤◌};
+ghost use Rattle.std.specs.Prelude.{◌≡◌, ◌≤◌, None, MatchOption};
+ghost use Rattle.hour.specs.Hour.{entries, constraint_at};
+ghost use Rattle.hour.specs.Live.{base_live, live_under};
+ghost use Rattle.hour.specs.declared.records.Market.TheVariants.{DayAhead};
 ghost use Rattle.weighting.specs.BookLimits.{load_in};
-ghost use Rattle.weighting.specs.Views.{view};
+ghost use Rattle.weighting.specs.Views.{CaseOf, view};
 
 use bus_set::{BusSet, contains};
 use hour::book::Book;
@@ -13,6 +16,31 @@ pub struct Case<'a> {
     pub book: &'a Book,
     pub market: Market,
     pub live: BusSet,
+}
+
+impl<'a> Case<'a> {
+    // The base case of a market.
+    pub fn base(book: &'a Book, market: Market) -> Case<'a>
+        ensures { CaseOf book.now market (base_live (entries book.now) market) result }
+    {
+        Case {
+            book,
+            market,
+            live: book.base_live(market),
+        }
+    }
+
+    // The day-ahead case under a posted constraint; none where it is not posted.
+    pub fn under(book: &'a Book, constraint: u8) -> Option<Case<'a>>
+        ensures { MatchOption result (constraint_at (entries book.now) constraint ≡ None) (CaseOf book.now DayAhead (live_under (entries book.now) constraint)) }
+    {
+        let live = book.live_under(constraint)?;
+        Some(Case {
+            book,
+            market: Market::DayAhead,
+            live,
+        })
+    }
 }
 
 impl Case<'_> {

@@ -8,4 +8,5 @@ pub mod points;
 pub mod ties;
 pub mod under;
 pub mod weightings;
+pub mod weights;
 pub mod zones;

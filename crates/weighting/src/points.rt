@@ -9,6 +9,7 @@ use crate::cases::Case;
 use crate::hubs::Hub;
 use crate::ties::Tie;
 use crate::weightings::Weighting;
+use crate::weights::Weights;
 use crate::zones::Zone;
 use bus_set::BusSet;
 use hour::book::Book;
@@ -27,13 +28,6 @@ pub enum Kind {
 pub struct Point {
     pub kind: Kind,
     pub number: i64,
-}
-
-// The weights of all buses in a case, and their total.
-#[derive(Clone, Copy)]
-pub struct Weights {
-    pub weights: [u32; 256],
-    pub total: u32,
 }
 
 // The weights of a point's buses, in the base case or under a constraint. The point is looked at first, then the
@@ -61,9 +55,7 @@ fn weigh_in<W: Weighting>(
         market: Market::DayAhead,
         live,
     };
-    let weights = weighting.weights(&case);
-    let total = weighting.total(&case);
-    Ok(Weights { weights, total })
+    Ok(weighting.weigh(&case))
 }
 
 // The live buses of the day-ahead base case, or under a posted constraint.

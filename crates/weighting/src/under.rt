@@ -6,18 +6,13 @@ ghost use Rattle.weighting.specs.Marks.{weight_under, MarkLaws};
 use crate::cases::Case;
 use crate::weightings::Weighting;
 use hour::book::Book;
-use hour::records::Market;
 
 // The weights of a posted constraint's case; none where it is not posted.
+#[tactic(auto, using(crate::proofs::Marks::mark_laws))]
 pub fn weights_under<W: Weighting>(weighting: &W, book: &Book, constraint: u8) -> Option<[u32; 256]>
     ensures weights { MatchOption result (constraint_at (entries book.now) constraint ≡ None) (λ all. (b : ℕ) → b < 256 → slice_index all b ≡ weight_under (W.Weighting.meaning weighting.now) book.now constraint b) }
     ensures laws { MarkLaws (W.Weighting.meaning weighting.now) }
 {
-    let live = book.live_under(constraint)?;
-    let case = Case {
-        book,
-        market: Market::DayAhead,
-        live,
-    };
+    let case = Case::under(book, constraint)?;
     Some(weighting.weights(&case))
 }

@@ -2,8 +2,10 @@
 ghost use Rattle.std.specs.Prelude.{◌≡◌};
 ghost use Rattle.weighting.specs.Views.{view};
 ghost use Rattle.weighting.specs.Meanings.{Meaning, WeightsOf};
+ghost use Rattle.weighting.specs.Weights.{Weighs};
 
 use crate::cases::Case;
+use crate::weights::Weights;
 
 // Asking changes nothing and is never refused. The meaning carries the laws: a dead bus weighs 0, the total is the sum
 // of the weights and at most 2,560,000, and cases that are alike get the same weights.
@@ -14,15 +16,19 @@ pub trait Weighting {
     fn weights(&self, case: &Case) -> [u32; 256]
         ensures { WeightsOf (meaning self.now) (view case.now) result };
 
+    // The weights and their total.
+    fn weigh(&self, case: &Case) -> Weights
+        ensures { Weighs (meaning self.now) (view case.now) result }
+    {
+        let weights = self.weights(case);
+        let total = weights.iter().sum();
+        Weights { weights, total }
+    }
+
     // The total of the weights.
     fn total(&self, case: &Case) -> u32
         ensures { result ≡ (meaning self.now).total (view case.now) }
     {
-        let all = self.weights(case);
-        let mut sum: u32 = 0;
-        for bus in 0..256usize {
-            sum += all[bus];
-        }
-        sum
+        self.weigh(case).total
     }
 }

@@ -15,7 +15,7 @@ use Rattle.posting.specs.Grids.{Grid}
 use Rattle.weighting.specs.BookLimits.{load_in, load_most, few_members}
 use Rattle.weighting.specs.Views.{View}
 use Rattle.weighting.specs.Meanings.{Meaning}
-use Rattle.day_ahead.specs.Sums.{sum_z}
+use Rattle.weighted_sums.specs.Sums.{sum_z}
 use Rattle.day_ahead.specs.Prices.{shadow_of, contribution_at, contribution, price_over, price_at, day_ahead_price}
 use Rattle.real_time.specs.Prices.{interval, hour_sum, cents_of, real_time_price}
 

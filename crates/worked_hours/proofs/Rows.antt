@@ -17,8 +17,7 @@ use Rattle.weighting.specs.declared.hubs.Hub.{Hub}
 use Rattle.weighting.specs.declared.hubs.Hub.TheVariants as of
 use Rattle.weighting.specs.declared.zones.Zone.{Zone}
 use Rattle.weighting.specs.declared.ties.Tie.{Tie}
-use Rattle.day_ahead.specs.Sums.{sum_z}
-use Rattle.real_time.specs.Sums.{sum_z as sum_of_runs}
+use Rattle.weighted_sums.specs.Sums.{sum_z}
 use Rattle.pricing.specs.Origins.{own_price}
 use Rattle.pricing.specs.Points.{hub_priced}
 use Rattle.pricing.specs.declared.origins.Origin.{Origin}
@@ -77,7 +76,7 @@ abbrev prices : ℤ → ℤ → Grid
 prices first second = table_grid (run_prices first second)
 
 pub worked_rows : WorkedHours
-unfolding bit count_below sum_below sum_z sum_of_runs half_up table_grid reference_grid
+unfolding bit count_below sum_below sum_z half_up table_grid reference_grid
 worked_rows = record {
   north = hub_row hour_n factors (pos 2225) Own of.North (λ loads few. refl);
   south = hub_row hour_n factors (pos 2225) Average of.South (λ loads few. refl);

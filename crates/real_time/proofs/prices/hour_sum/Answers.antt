@@ -1,30 +1,26 @@
-use Rattle.std.proofs.Common.{◌≡◌, ℕ, ℤ, sym, ap, ◌∙◌, arith}
+use Rattle.std.proofs.Common.{◌≡◌, ℕ, List, get_or, ℤ, None, Option, sym, ap, ◌∙◌, arith}
 use Rattle.std.proofs.lemmas.Int.{ints}
 use Rattle.hour.specs.Hour.{entries, run_at}
-use Rattle.real_time.specs.Sums.{sum_z}
-use Rattle.real_time.specs.Weights.{weight_in}
+use Rattle.hour.specs.declared.records.Run.{Run}
+use Rattle.weighted_sums.specs.Weighted.{weight_in}
+use Rattle.weighted_sums.proofs.Sums.{sum_z_none, sum_z_more}
+use Rattle.weighted_sums.proofs.Withins.{within_zero}
 use Rattle.real_time.specs.Prices.{run_part}
-use Rattle.real_time.proofs.Sums.{sum_z_none, sum_z_more}
 use Rattle.real_time.proofs.prices.hour_sum.Goals as goal
 
 pub loop-column-init : goal.loop-column-init
-loop-column-init g c = (sym (sum_z_none _), record { low = omega (arith, ints); high = omega (arith, ints) })
-
-pub overflow_add-sum : goal.overflow_add-sum
-overflow_add-sum g c = omega (arith, ints, c.loop-column.invariant.1, c.run_part-sum.ensures.bound)
+loop-column-init g c = (sym (sum_z_none _), within_zero 0)
 
 pub loop-column-preserved : goal.loop-column-preserved
 loop-column-preserved g c =
-    let f : ℕ → ℤ = λ k. run_part (weight_in c.args.weights.now) (g.P.Posting.grid c.args.posting.now) c.args.weights.now.total k (run_at (entries c.args.book.now) k) in (
-      omega (arith, ints, c.loop-column.invariant, c.run_part-sum.ensures.value, c.run_part-sum.ensures.bound, sum_z_more f c.loop-column.column),
-      record { low = omega (arith, ints, c.loop-column.invariant.1, c.run_part-sum.ensures.bound); high = omega (arith, ints, c.loop-column.invariant.1, c.run_part-sum.ensures.bound) },
+    let w = c.args.weights.now in
+    let book = c.args.book.now in
+    let k = c.loop-column.column in
+    let part : ℕ → Option Run → ℤ = run_part (weight_in w) (g.P.Posting.grid c.args.posting.now) w.total in
+    let same = ap (λ (l : List (Option Run)). get_or l k None) (c.as_slice-runs.ensures.value ∙ c.runs.ensures.value) in
+    let is : c.run_part-sum.result ≡ part k (run_at (entries book) k) = c.run_part-sum.ensures.value ∙ ap (part k) same in
+    let bound = c.run_part-sum.ensures.bound in
+    let more = sum_z_more (λ k. part k (run_at (entries book) k)) k in (
+      omega (arith, ints, c.loop-column.invariant, is, bound.low, bound.high, more),
+      record { low = omega (arith, ints, c.loop-column.invariant, bound.low, bound.high); high = omega (arith, ints, c.loop-column.invariant, bound.low, bound.high) },
     )
-
-pub returns : goal.returns
-returns g c =
-    let f : ℕ → ℤ = λ k. run_part (weight_in c.args.weights.now) (g.P.Posting.grid c.args.posting.now) c.args.weights.now.total k (run_at (entries c.args.book.now) k) in
-    let end : c.loop-column.column ≡ 16 = omega arith in
-    record {
-      value = c.loop-column.invariant.0 ∙ ap (sum_z f) end;
-      bound = record { low = omega (arith, ints, c.loop-column.invariant.1); high = omega (arith, ints, c.loop-column.invariant.1) };
-    }

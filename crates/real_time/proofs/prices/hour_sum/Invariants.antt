@@ -1,9 +1,9 @@
 use Rattle.std.proofs.Common.{◌≡◌, ◌*◌}
 use Rattle.posting.specs.Grids.{Within}
 use Rattle.hour.specs.Hour.{entries, run_at}
-use Rattle.real_time.specs.Sums.{sum_z}
+use Rattle.weighted_sums.specs.Sums.{sum_z}
+use Rattle.weighted_sums.specs.Weighted.{weight_in}
 use Rattle.real_time.specs.Bounds.{most_part}
-use Rattle.real_time.specs.Weights.{weight_in}
 use Rattle.real_time.specs.Prices.{run_part}
 use Rattle.real_time.proofs.prices.hour_sum.Given as goal
 
