@@ -5,11 +5,11 @@ use Rattle.page.specs.Pages.{written}
 use Rattle.page.proofs.Pushing.{and_then}
 use Rattle.price_lines.specs.Lines.{kind_letter}
 use Rattle.price_lines.proofs.Lengths.{signed_short}
-use Rattle.price_lines.proofs.fields.push_point.Goals as goal
+use Rattle.price_lines.proofs.lines.Lines.push_point.Goals as goal
 
 pub returns : goal.returns
 returns g c =
-    let was = c.args.page.now in
+    let was = c.args.self.now.page in
     let one = c.push_all.new.self in
     let two = c.push.new.self in
     let three = c.push-2.new.self in

@@ -3,15 +3,15 @@ use Rattle.std.proofs.lemmas.List.{length-append}
 use Rattle.page.specs.Pages.{written}
 use Rattle.page.proofs.Pushing.{and_then}
 use Rattle.price_lines.specs.Lines.{point_fields, price_fields, line}
-use Rattle.price_lines.proofs.fields.push_line.Goals as goal
+use Rattle.price_lines.proofs.lines.Lines.push_line.Goals as goal
 
 pub returns : goal.returns
 unfolding line
 returns g c =
-    let was = c.args.page.now in
-    let one = c.push_point.new.page in
+    let was = c.args.self.now.page in
+    let one = c.push_point.new.self.page in
     let two = c.push.new.self in
-    let three = c.push_price.new.page in
+    let three = c.push_price.new.self.page in
     let four = c.push-2.new.self in
     let point = point_fields c.args.point in
     let price = price_fields c.args.price in
