@@ -1,7 +1,8 @@
 -- Lines added to a page one after another.
 use Rattle.std.proofs.Common.{◌≡◌, ℕ, suc, ◌+◌, ◌-◌, ◌*◌, ◌<◌, ◌≤◌, Bool, true, false, cond, List, [], ◌∷◌, ◌++◌, length, get_or, take, ℤ, pos, Result, sym, refl, ap, ◌∙◌, subst, arith}
 use Rattle.std.specs.List.{flat_map}
-use Rattle.std.proofs.lemmas.List.{append_assoc, append-nil, length-append, take_all, take_more, flat_map_more}
+use Rattle.std.proofs.lemmas.Grind.{flat_map-append}
+use Rattle.std.proofs.lemmas.List.{append-nil, length-append, take_all, take_more, flat_map_more}
 use Rattle.refusals.specs.declared.Refusal.{Refusal}
 use Rattle.hour.specs.Hour.{Hour}
 use Rattle.weighting.specs.Meanings.{Meaning}
@@ -27,10 +28,6 @@ adds_more {n} k a b before mid after first second = record {
 pub joined_take_more : {X : Type 0} (f : X → List ℕ) (xs : List X) (i : ℕ) (d : X) → i < length xs → flat_map f (take i xs) ++ f (get_or xs i d) ≡ flat_map f (take (i + 1) xs)
 joined_take_more f xs i d l = flat_map_more f [] (take i xs) (get_or xs i d) ∙ ap (flat_map f) (sym (take_more xs i d l))
 
-pub joined_append : {X : Type 0} (f : X → List ℕ) (xs ys : List X) → flat_map f (xs ++ ys) ≡ flat_map f xs ++ flat_map f ys
-joined_append f [] ys = refl
-joined_append f (x ∷ xs) ys = ap (λ (t : List ℕ). f x ++ t) (joined_append f xs ys) ∙ sym (append_assoc (f x) (flat_map f xs) (flat_map f ys))
-
 joined_cond : (f : ℕ → List ℕ) (on : Bool) (x : ℕ) → flat_map f (cond on (x ∷ []) []) ≡ cond on (f x) []
 joined_cond f true x = append-nil (f x)
 joined_cond f false x = refl
@@ -39,7 +36,7 @@ pub zones_more : (price : Meaning → Result ℤ Refusal) (h : Hour) (n : ℕ) �
 unfolding zones_to
 zones_more price h n =
     ap (λ (t : List ℕ). flat_map (zone_line price) (zones_to h n) ++ t) (sym (joined_cond (zone_line price) (has_bus h (suc n)) (suc n)))
-    ∙ sym (joined_append (zone_line price) (zones_to h n) (cond (has_bus h (suc n)) (suc n ∷ []) []))
+    ∙ sym (flat_map-append (zone_line price) (zones_to h n) (cond (has_bus h (suc n)) (suc n ∷ []) []))
 
 -- the zones before `zone`, and then `zone`
 pub zones_step : (price : Meaning → Result ℤ Refusal) (h : Hour) (zone : ℕ) → 1 ≤ zone → flat_map (zone_line price) (zones_to h (zone - 1)) ++ zone_text price h zone ≡ flat_map (zone_line price) (zones_to h (zone + 1 - 1))

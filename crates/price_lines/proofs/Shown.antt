@@ -20,7 +20,7 @@ use Rattle.pricing.specs.Points.{PricedAt, hub_priced}
 use Rattle.page.specs.Copies.{Copies}
 use Rattle.price_lines.specs.Lines.{hubs, hub_point, zone_point, zone_line, has_bus, zones_to, priced_lines}
 use Rattle.price_lines.specs.Shown.{Entry, entry_line, PlacedIn, Listed, Before, Ascending, Shows}
-use Rattle.price_lines.proofs.Adding.{joined_append}
+use Rattle.std.proofs.lemmas.Grind.{flat_map-append}
 use Rattle.price_lines.proofs.Zones.{some_here, some_where}
 
 -- hubs by number
@@ -142,7 +142,7 @@ module _ (price : Meaning → Result ℤ Refusal) where
     whole_text =
         ap (λ (t : List ℕ). t ++ flat_map (zone_line price) (zones_to h 16)) (joined_map hub_entry hubs)
         ∙ ap (λ (t : List ℕ). flat_map entry_line (map hub_entry hubs) ++ t) (joined_map zone_entry (zones_to h 16))
-        ∙ sym (joined_append entry_line (map hub_entry hubs) (map zone_entry (zones_to h 16)))
+        ∙ sym (flat_map-append entry_line (map hub_entry hubs) (map zone_entry (zones_to h 16)))
 
     every_listed : (k : Kind) (z : ℤ) → Listed h k z → Has (map (λ (e : Entry). e.point) all_entries) (record { kind = k; number = z })
     every_listed kind.Hub z l =

@@ -8,9 +8,8 @@ ghost use Rattle.page.specs.Pages.{written};
 ghost use Rattle.price_lines.specs.Lines.{day_ahead, price_lines};
 ghost use Rattle.price_lines.specs.Shown.{Shows};
 
-use crate::lines::{push_hubs, push_zones};
+use crate::lines::Lines;
 use hour::book::Book;
-use page::pages::Page;
 use posting::Posting;
 use pricing::day_ahead_market::DayAhead;
 use refusals::Refusal;
@@ -27,15 +26,15 @@ pub fn price_lines<P: Posting>(book: &Book, posting: &P, out: &mut [u8]) -> Resu
     ensures text { Copies (price_lines book.now (P.Posting.grid posting.now)) out.old out.new result }
     ensures shown { IfOk result (λ n. Shows (day_ahead book.now (P.Posting.grid posting.now)) (entries book.now) (take n out.new)) }
 {
-    composed(book, posting).copy_to(out)
+    composed(book, posting).page.copy_to(out)
 }
 
-fn composed<'a, P: Posting>(book: &'a Book, posting: &'a P) -> Page<PAGE>
-    ensures { written result ≡ price_lines book.now (P.Posting.grid posting.now) }
+fn composed<'a, P: Posting>(book: &'a Book, posting: &'a P) -> Lines<PAGE>
+    ensures { written result.page ≡ price_lines book.now (P.Posting.grid posting.now) }
 {
     let market = DayAhead { book, posting };
-    let mut page: Page<PAGE> = Page::blank();
-    push_hubs(&mut page, &market);
-    push_zones(&mut page, book, &market);
-    page
+    let mut lines: Lines<PAGE> = Lines::none();
+    lines.push_hubs(&market);
+    lines.push_zones(book, &market);
+    lines
 }

@@ -1,5 +1,9 @@
 -- What is added to a page.
-use Rattle.std.specs.Prelude.{◌≡◌, ℕ, List, ◌++◌, take}
+use Rattle.std.specs.Prelude.{◌≡◌, ℕ, List, [], ◌∷◌, ◌++◌, take, ℤ}
+use Rattle.std.specs.List.{flat_map}
+use Rattle.std.specs.Fmt.{signed_decimal}
+use Rattle.cuts.specs.Fields.{comma}
+use Rattle.saved.specs.Texts.{line_end}
 use Rattle.page.specs.Pages.{written}
 use Rattle.page.specs.declared.pages.Page.{Page}
 
@@ -10,3 +14,7 @@ longest = 90000
 -- the bytes are added to the page, as far as there is room
 pub record Adds (bytes : List ℕ) (before after : Page longest) : Type 0 where
   pub text : written after ≡ take longest (written before ++ bytes)
+
+-- a letter and numbers, with commas between them, and a line end
+abbrev pub numbers_text : ℕ → List ℤ → List ℕ
+numbers_text letter numbers = letter ∷ (flat_map (λ z. comma ∷ signed_decimal z) numbers ++ (line_end ∷ []))

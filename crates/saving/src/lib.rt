@@ -11,18 +11,16 @@ use hour::book::Book;
 use refusals::Refusal;
 
 mod drafts;
-mod lines;
 
 // As many bytes as are enough for any saved text.
 pub const LONGEST: usize = 90_000;
 
 // Writes the book's saved text to the front of `out`, and answers its length. A buffer that is too short is left as it was.
+#[tactic(auto, using(crate::proofs::Lengths::saved_fits, crate::proofs::Reading::saved_legible))]
 pub fn save(book: &Book, out: &mut [u8]) -> Result<usize, Refusal>
     ensures saved { Copies (saved_text (entries book.now)) out.old out.new result }
     ensures fits { Fits (entries book.now) }
     ensures legible { Legible (entries book.now) }
 {
-    let mut draft = Draft::empty();
-    draft.push_all(book);
-    draft.page.copy_to(out)
+    Draft::of(book).page.copy_to(out)
 }

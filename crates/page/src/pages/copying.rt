@@ -1,6 +1,6 @@
 // A page's text, written to a caller's buffer.
-ghost use Rattle.page.specs.Pages.{written};
 ghost use Rattle.page.specs.Copies.{Copies};
+ghost use Rattle.page.specs.Pages.{written};
 
 use crate::pages::Page;
 use refusals::Refusal;
@@ -10,11 +10,10 @@ impl<const N: usize> Page<N> {
     pub fn copy_to(&self, out: &mut [u8]) -> Result<usize, Refusal>
         ensures { Copies (written self.now) out.old out.new result }
     {
-        if out.len() < self.len {
-            return Err(Refusal::BufferShort);
-        }
-        let cells = &self.sheet.cells[..];
-        out[0..self.len].copy_from_slice(&cells[0..self.len]);
-        Ok(self.len)
+        let (front, _) = out
+            .split_at_mut_checked(self.len())
+            .ok_or(Refusal::BufferShort)?;
+        front.copy_from_slice(&self.text);
+        Ok(self.len())
     }
 }

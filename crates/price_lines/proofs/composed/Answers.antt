@@ -9,5 +9,5 @@ pub returns : goal.returns
 unfolding price_lines
 returns g c =
     let price = day_ahead c.args.book.now (g.P.Posting.grid c.args.posting.now) in
-    all_fit (flat_map (hub_line price) hubs) (flat_map (zone_line price) (zones_to (entries c.args.book.now) 16)) c.blank-page.result c.push_hubs.new.page c.push_zones.new.page
-    (omega arith) c.blank-page.ensures c.push_hubs.ensures c.push_zones.ensures
+    all_fit (flat_map (hub_line price) hubs) (flat_map (zone_line price) (zones_to (entries c.args.book.now) 16)) c.none-lines.result.page c.push_hubs.new.self.page c.push_zones.new.self.page
+    (omega arith) c.none-lines.ensures c.push_hubs.ensures c.push_zones.ensures
