@@ -1,7 +1,7 @@
 // The size of the grid and the limits of its numbers, and where a table has each number.
 ghost use Rattle.std.specs.Prelude.{◌≡◌};
 ghost use Rattle.posting.specs.Grids.{inside};
-ghost use Rattle.posting.specs.Tables.{place};
+ghost use Rattle.posting.specs.Tables.{place, counts};
 
 pub const BUSES: usize = 256;
 
@@ -25,4 +25,11 @@ pub fn place(bus: usize, column: usize) -> Option<usize>
     ensures { result ≡ place bus column }
 {
     is_inside(bus, column).then(|| column * BUSES + bus)
+}
+
+// Whether a table may have the number.
+pub fn counts(number: i32) -> bool
+    ensures { result ≡ counts number }
+{
+    (-MOST_TABLE_NUMBER..=MOST_TABLE_NUMBER).contains(&number)
 }

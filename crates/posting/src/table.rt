@@ -4,7 +4,7 @@ ghost use Rattle.posting.specs.Meanings.{table_grid};
 ghost use Rattle.posting.specs.Laws.{TableLaws};
 
 use crate::Posting;
-use crate::limits::{MOST_TABLE_NUMBER, place};
+use crate::limits::{counts, place};
 
 // The number of a bus and column stands at place column × 256 + bus. A place past the end, and a number that is more than 1,000,000
 // away from 0, read as 0.
@@ -31,7 +31,7 @@ impl Posting for Table<'_> {
         place(bus, column)
             .and_then(|at| self.numbers.get(at))
             .copied()
-            .filter(|n| (-MOST_TABLE_NUMBER..=MOST_TABLE_NUMBER).contains(n))
+            .filter(|n| counts(*n))
             .unwrap_or(0)
     }
 }
