@@ -48,8 +48,7 @@ fn write_lines(table: &mut [i32], text: &[u8])
     requires { places ≤ length table.old }
     ensures { table.new ≡ table_from table.old (lines text.now) }
 {
-    let mut lines = Lines { rest: text };
-    while let Some(line) = lines.next() {
+    for line in Lines::of(text) {
         write_line(table, line);
     }
 }
