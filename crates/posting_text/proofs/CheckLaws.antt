@@ -9,12 +9,13 @@ use Rattle.faults.specs.declared.Why.TheVariants.{Short}
 use Rattle.faults.specs.Faults.{spot, fault, in_line}
 use Rattle.cuts.specs.Cuts.{front, after, split}
 use Rattle.cuts.proofs.Cutting.{Plain, split_append}
+use Rattle.posting.specs.Limits.{places}
 use Rattle.posting_text.specs.declared.entries.Entry.{Entry}
 use Rattle.posting_text.specs.Lines.{line_entry, and_then}
 use Rattle.posting_text.specs.Texts.{line_end, check_from, checking, passing, past_line}
 use Rattle.posting_text.specs.Written.{Right, written, text_of}
 use Rattle.posting_text.specs.Keeping.{never, then_held}
-use Rattle.posting_text.specs.Filling.{places, granting}
+use Rattle.posting_text.specs.Filling.{granting}
 use Rattle.posting_text.specs.Laws.{InOrder, FirstFault, FillSays}
 use Rattle.posting_text.proofs.Turning.{turn, check_turn, passing_rest, after_shorter, more_turn}
 use Rattle.posting_text.proofs.Canonical.{entry_written, written_entry, written_plain}
@@ -148,7 +149,7 @@ said_by text p e n h = MatchResult-at_ok (InOrder text) (FirstFault text) n h (c
 said_not : (text : List ℕ) (p : Result ℕ Fault) → p ≡ checking text → (f : Fault) → p ≡ Err f → FirstFault text f
 said_not text p e f h = MatchResult-at_err (InOrder text) (FirstFault text) f h (check_says text p e)
 
-grant_long : (text : List ℕ) (table : List ℤ) → places ≤ length table → checking text ≡ granting text table
+pub grant_long : (text : List ℕ) (table : List ℤ) → places ≤ length table → checking text ≡ granting text table
 grant_long text table long = sym (cond-true _ _ _ (le-leb places (length table) long))
 
 grant_short : (text : List ℕ) (table : List ℤ) → length table < places → granting text table ≡ Err (fault Short 0 0)
