@@ -1,5 +1,5 @@
 -- The last number of a bus and column is that of the last entry.
-use Rattle.std.proofs.Common.{◌≡◌, ℕ, ◌&&◌, Bool, true, false, eqb, List, [], ◌∷◌, ℤ, pos, Some, None, Ok, Err, Option, Result, refl}
+use Rattle.std.proofs.Common.{◌≡◌, ℕ, ◌&&◌, Bool, true, false, eqb, List, [], ◌∷◌, Some, None, Ok, Err, Option, Result, refl}
 use Rattle.std.specs.List.{cons_option, filter, filter_map, last_or}
 use Rattle.std.specs.Result.{result_ok}
 use Rattle.faults.specs.declared.Spot.{Spot}

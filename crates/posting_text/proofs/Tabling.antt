@@ -1,8 +1,8 @@
 -- A table that is written line by line.
-use Rattle.std.proofs.Common.{◌≡◌, ℕ, ◌+◌, ◌*◌, ◌/◌, ◌%◌, ◌<◌, ◌≤◌, ◌&&◌, eqb, ltb, List, [], ◌∷◌, ◌++◌, length, get_or, take, drop, set, ℤ, pos, Ok, Err, Result, sym, refl, ap, ◌∙◌, inl, inr, ⊎_elim, arith}
+use Rattle.std.proofs.Common.{◌≡◌, ℕ, ◌+◌, ◌*◌, ◌/◌, ◌%◌, ◌<◌, ◌≤◌, ◌&&◌, eqb, ltb, List, [], ◌∷◌, ◌++◌, length, get_or, drop, set, ℤ, pos, Ok, Err, Result, sym, refl, ap, ◌∙◌, inl, inr, ⊎_elim, arith}
 use Rattle.std.proofs.lemmas.List.{length-set, get_or-set_same, get_or-set_other, get_or_append_left, drop_at, length-drop, length-append}
 use Rattle.std.proofs.lemmas.Int.{ints}
-use Rattle.std.proofs.lemmas.Bool.{cond-true, cond-false, cond_both, and_from, and_parts, both_ways, lt-ltb, lt-leb, eq-eqb, cases_eq, cases_lt, ltb-true, eqb-true}
+use Rattle.std.proofs.lemmas.Bool.{cond-true, cond_both, and_from, and_parts, both_ways, lt-ltb, eq-eqb, cases_eq, cases_lt, ltb-true, eqb-true}
 use Rattle.faults.specs.declared.Spot.{Spot}
 use Rattle.posting.specs.Limits.{buses, columns, places, most_table_number}
 use Rattle.posting.specs.Grids.{Within, inside}
@@ -13,7 +13,7 @@ use Rattle.posting_text.specs.Lines.{line_entry}
 use Rattle.posting_text.specs.Texts.{lines}
 use Rattle.posting_text.specs.Written.{Right}
 use Rattle.posting_text.specs.Direct.{number_after, last_number, direct_number}
-use Rattle.posting_text.specs.Keeping.{never, line_right, direct_small, direct_outside}
+use Rattle.posting_text.specs.Keeping.{line_right, direct_small, direct_outside}
 use Rattle.posting_text.specs.Meanings.{direct_grid}
 use Rattle.posting_text.specs.Filling.{table_after, table_from, Filled}
 

@@ -41,14 +41,12 @@ pub fn fill(table: &mut [i32], text: &[u8]) -> Result<(), Fault>
     ensures kept { is_err result ≡ true → table.new ≡ table.old }
     ensures filled { OnOk result (Filled text.now table.old table.new) }
 {
-    let Some(places) = table.first_chunk_mut::<PLACES>() else {
-        return Err(Fault {
-            why: Why::Short,
-            line: 0,
-            field: 0,
-        });
-    };
-    let _ = check(text)?;
+    let places = table.first_chunk_mut().ok_or(Fault {
+        why: Why::Short,
+        line: 0,
+        field: 0,
+    })?;
+    check(text)?;
     places.fill(0);
     write_lines(places, text);
     Ok(())

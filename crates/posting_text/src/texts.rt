@@ -43,9 +43,7 @@ pub fn past_line(text: &[u8]) -> Result<&[u8], Spot>
 {
     let (line, after) = cut(text, b'\n');
     let numbers = read_numbers(line)?;
-    let Some(rest) = after else {
-        return Err(malformed(0));
-    };
-    let _ = numbers.entry()?;
+    let rest = after.ok_or(malformed(0))?;
+    numbers.entry()?;
     Ok(rest)
 }
