@@ -1,5 +1,5 @@
 -- The size of a posting's grid, and the limits of its numbers.
-use Rattle.std.specs.Prelude.{ℕ}
+use Rattle.std.specs.Prelude.{ℕ, ◌*◌}
 
 -- buses 0 to 255
 abbrev pub buses : ℕ
@@ -8,6 +8,10 @@ buses = 256
 -- columns 0 to 31: constraints day-ahead, runs real-time
 abbrev pub columns : ℕ
 columns = 32
+
+-- of a table: one for each bus and column
+abbrev pub places : ℕ
+places = columns * buses
 
 -- of any posting, millionths or cents, either way from 0
 abbrev pub most_number : ℕ

@@ -4,7 +4,7 @@
 ghost use Rattle.std.specs.Prelude.{◌≡◌};
 ghost use Rattle.posting.specs.Grids.{Grid};
 
-mod limits;
+pub mod limits;
 pub mod reference;
 pub mod table;
 

@@ -1,21 +1,20 @@
 -- What the answer of a check says of the text.
-use Rattle.std.proofs.Common.{◌≡◌, ℕ, zero, suc, ◌+◌, ◌<◌, ◌≤◌, true, false, eqb, List, [], ◌∷◌, ◌++◌, length, ℤ, Some, Ok, Err, Result, sym, refl, ap, ◌∙◌, subst, inl, inr, ⊎_elim, append_assoc, arith, MatchResult}
+use Rattle.std.proofs.Common.{◌≡◌, ℕ, zero, suc, ◌+◌, ◌<◌, ◌≤◌, true, false, eqb, List, [], ◌∷◌, ◌++◌, length, ℤ, Some, Ok, Err, Result, sym, refl, ap, ◌∙◌, subst, ⊎_elim, append_assoc, arith, MatchResult}
 use Rattle.std.specs.List.{AllByRecursion as All}
-use Rattle.std.proofs.lemmas.Bool.{cond-true, cond-false, cases_Bool, eqb-true, ne_eqb, cases_lt, le-leb, lt-leb}
-use Rattle.std.proofs.lemmas.Result.{MatchResult-at_ok, MatchResult-at_err}
+use Rattle.std.proofs.lemmas.Bool.{cond-true, cond-false, cases_Bool, eqb-true, ne_eqb, le-leb}
 use Rattle.faults.specs.declared.Spot.{Spot}
 use Rattle.faults.specs.declared.Fault.{Fault}
-use Rattle.faults.specs.declared.Why.TheVariants.{Short}
 use Rattle.faults.specs.Faults.{spot, fault, in_line}
 use Rattle.cuts.specs.Cuts.{front, after, split}
 use Rattle.cuts.proofs.Cutting.{Plain, split_append}
+use Rattle.posting.specs.Limits.{places}
 use Rattle.posting_text.specs.declared.entries.Entry.{Entry}
 use Rattle.posting_text.specs.Lines.{line_entry, and_then}
 use Rattle.posting_text.specs.Texts.{line_end, check_from, checking, passing, past_line}
 use Rattle.posting_text.specs.Written.{Right, written, text_of}
 use Rattle.posting_text.specs.Keeping.{never, then_held}
-use Rattle.posting_text.specs.Filling.{places, granting}
-use Rattle.posting_text.specs.Laws.{InOrder, FirstFault, FillSays}
+use Rattle.posting_text.specs.Filling.{granting}
+use Rattle.posting_text.specs.Laws.{InOrder, FirstFault}
 use Rattle.posting_text.proofs.Turning.{turn, check_turn, passing_rest, after_shorter, more_turn}
 use Rattle.posting_text.proofs.Canonical.{entry_written, written_entry, written_plain}
 
@@ -141,26 +140,6 @@ pub accepts : (es : List Entry) → All Right es → checking (text_of es) ≡ O
 unfolding checking
 accepts es h = accepts_from 0 es h ∙ ap Ok (omega arith)
 
--- what a grant says
-said_by : (text : List ℕ) (p : Result ℕ Fault) → p ≡ checking text → (n : ℕ) → p ≡ Ok n → InOrder text n
-said_by text p e n h = MatchResult-at_ok (InOrder text) (FirstFault text) n h (check_says text p e)
-
-said_not : (text : List ℕ) (p : Result ℕ Fault) → p ≡ checking text → (f : Fault) → p ≡ Err f → FirstFault text f
-said_not text p e f h = MatchResult-at_err (InOrder text) (FirstFault text) f h (check_says text p e)
-
-grant_long : (text : List ℕ) (table : List ℤ) → places ≤ length table → checking text ≡ granting text table
+-- a table that is long enough is granted what the text is
+pub grant_long : (text : List ℕ) (table : List ℤ) → places ≤ length table → checking text ≡ granting text table
 grant_long text table long = sym (cond-true _ _ _ (le-leb places (length table) long))
-
-grant_short : (text : List ℕ) (table : List ℤ) → length table < places → granting text table ≡ Err (fault Short 0 0)
-grant_short text table short = cond-false _ _ _ (lt-leb places (length table) short)
-
-pub grant_says : (text : List ℕ) (table : List ℤ) (r : Result (Unit {0}) Fault)
-    → MatchResult r (λ _. (n : ℕ) × (granting text table ≡ Ok n)) (λ f. granting text table ≡ Err f) → FillSays text table r
-grant_says text table (Ok u) h = ⊎_elim
-    (λ (short : length table < places). never h.0 (fault Short 0 0) (sym (grant_short text table short) ∙ h.1))
-    (λ (long : places ≤ length table). (long, (h.0, said_by text (checking text) refl h.0 (grant_long text table long ∙ h.1))))
-    (cases_lt (length table) places)
-grant_says text table (Err f) h = ⊎_elim
-    (λ (short : length table < places). let q = sym (grant_short text table short) ∙ h in let z : f ≡ fault Short 0 0 = cc in inl (short, z))
-    (λ (long : places ≤ length table). inr (long, said_not text (checking text) refl f (grant_long text table long ∙ h)))
-    (cases_lt (length table) places)

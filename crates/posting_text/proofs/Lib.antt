@@ -4,3 +4,4 @@ mod Tabling
 mod Canonical
 mod CheckLaws
 mod DirectLaws
+mod LastEntry

@@ -1,10 +1,10 @@
 -- A table that is written line by line.
-use Rattle.std.proofs.Common.{◌≡◌, ℕ, ◌+◌, ◌*◌, ◌/◌, ◌%◌, ◌<◌, ◌≤◌, ◌&&◌, eqb, ltb, List, [], ◌∷◌, ◌++◌, length, get_or, take, drop, set, ℤ, pos, Ok, Err, Result, sym, refl, ap, ◌∙◌, inl, inr, ⊎_elim, arith}
-use Rattle.std.proofs.lemmas.List.{length-set, drop-set-lt, get_or-set_same, get_or-set_other, get_or_append_left, drop_at, length-take-le, length-drop, length-append}
+use Rattle.std.proofs.Common.{◌≡◌, ℕ, ◌+◌, ◌*◌, ◌/◌, ◌%◌, ◌<◌, ◌≤◌, ◌&&◌, eqb, ltb, List, [], ◌∷◌, ◌++◌, length, get_or, drop, set, ℤ, pos, Ok, Err, Result, sym, refl, ap, ◌∙◌, inl, inr, ⊎_elim, arith}
+use Rattle.std.proofs.lemmas.List.{length-set, get_or-set_same, get_or-set_other, get_or_append_left, drop_at, length-drop, length-append}
 use Rattle.std.proofs.lemmas.Int.{ints}
-use Rattle.std.proofs.lemmas.Bool.{cond-true, cond-false, cond_both, and_from, and_parts, both_ways, lt-ltb, lt-leb, eq-eqb, cases_eq, cases_lt, ltb-true, eqb-true}
+use Rattle.std.proofs.lemmas.Bool.{cond-true, cond_both, and_from, and_parts, both_ways, lt-ltb, eq-eqb, cases_eq, cases_lt, ltb-true, eqb-true}
 use Rattle.faults.specs.declared.Spot.{Spot}
-use Rattle.posting.specs.Limits.{buses, columns, most_table_number}
+use Rattle.posting.specs.Limits.{buses, columns, places, most_table_number}
 use Rattle.posting.specs.Grids.{Within, inside}
 use Rattle.posting.specs.Tables.{counted}
 use Rattle.posting.specs.Meanings.{table_grid}
@@ -13,9 +13,9 @@ use Rattle.posting_text.specs.Lines.{line_entry}
 use Rattle.posting_text.specs.Texts.{lines}
 use Rattle.posting_text.specs.Written.{Right}
 use Rattle.posting_text.specs.Direct.{number_after, last_number, direct_number}
-use Rattle.posting_text.specs.Keeping.{never, line_right, direct_small, direct_outside}
+use Rattle.posting_text.specs.Keeping.{line_right, direct_small, direct_outside}
 use Rattle.posting_text.specs.Meanings.{direct_grid}
-use Rattle.posting_text.specs.Filling.{places, table_after, table_from, Cleared, granting, Filled}
+use Rattle.posting_text.specs.Filling.{table_after, table_from, Filled}
 
 place_inside : (e : Entry) → Right e → e.column * buses + e.bus < places
 place_inside e r = let b = r.bus_inside in let c = r.column_inside in omega arith
@@ -55,11 +55,7 @@ after_length : (table : List ℤ) (r : Result Entry Spot) → length (table_afte
 after_length table (Ok e) = length-set table (e.column * buses + e.bus) e.number
 after_length table (Err s) = refl
 
-after_drop : (table : List ℤ) (r : Result Entry Spot) → ((e : Entry) → r ≡ Ok e → Right e) → drop places (table_after table r) ≡ drop places table
-after_drop table (Ok e) right = drop-set-lt places table (e.column * buses + e.bus) e.number (place_inside e (right e refl))
-after_drop table (Err s) right = refl
-
--- the numbers, the length and the later entries that the lines leave
+-- the numbers and the length that the lines leave
 from_get_d : (table : List ℤ) (ls : List (List ℕ)) (k : ℕ) → places ≤ length table → k < places
     → get_or (table_from table ls) k (pos 0) ≡ last_number (k % buses) (k / buses) (get_or table k (pos 0)) ls
 from_get_d table [] k long h = refl
@@ -70,10 +66,6 @@ from_get_d table (l ∷ ls) k long h =
 from_length : (table : List ℤ) (ls : List (List ℕ)) → length (table_from table ls) ≡ length table
 from_length table [] = refl
 from_length table (l ∷ ls) = from_length (table_after table (line_entry l)) ls ∙ after_length table (line_entry l)
-
-from_drop : (table : List ℤ) (ls : List (List ℕ)) → drop places (table_from table ls) ≡ drop places table
-from_drop table [] = refl
-from_drop table (l ∷ ls) = from_drop (table_after table (line_entry l)) ls ∙ after_drop table (line_entry l) (line_right l)
 
 counted_small : (z : ℤ) → Within most_table_number z → counted z ≡ z
 counted_small z w = grind (arith, ints)
@@ -101,33 +93,19 @@ means text table numbers bus column =
     (λ (b : buses ≤ bus). direct_outside text bus column (inl b))
     (cases_lt bus buses)))
 
-pub fills : (text : List ℕ) (before cleared after : List ℤ) → places ≤ length before → Cleared before cleared → after ≡ table_from cleared (lines text) → Filled text before after
+-- the first places written anew, from 0 at each
+pub fills : (text : List ℕ) (before zeros : List ℤ) → places ≤ length before → length zeros ≡ places → ((k : ℕ) → k < places → get_or zeros k (pos 0) ≡ pos 0)
+    → Filled text before (table_from zeros (lines text) ++ drop places before)
 unfolding direct_number
-fills text before cleared after long c made =
-    let each : (k : ℕ) → k < places → get_or after k (pos 0) ≡ direct_number text (k % buses) (k / buses) =
-    λ k h. ap (λ (t : List ℤ). get_or t k (pos 0)) made ∙ from_get_d cleared (lines text) k (omega (arith, c.length_kept)) h
-    ∙ ap (λ (z : ℤ). last_number (k % buses) (k / buses) z (lines text)) (c.each_zero k h) in
+fills text before zeros long front zero =
+    let written = table_from zeros (lines text) in
+    let same : length written ≡ places = from_length zeros (lines text) ∙ front in
+    let each : (k : ℕ) → k < places → get_or (written ++ drop places before) k (pos 0) ≡ direct_number text (k % buses) (k / buses) =
+    λ k h. get_or_append_left written (drop places before) (pos 0) k (omega arith) ∙ from_get_d zeros (lines text) k (omega arith) h
+    ∙ ap (λ (z : ℤ). last_number (k % buses) (k / buses) z (lines text)) (zero k h) in
     record {
       each_place = each;
-      later_entries = ap (drop places) made ∙ from_drop cleared (lines text) ∙ c.later_kept;
-      same_length = ap length made ∙ from_length cleared (lines text) ∙ c.length_kept;
-      same_meaning = means text after each;
-    }
-
-pub granted_long : (text : List ℕ) (table : List ℤ) (n : ℕ) → granting text table ≡ Ok n → places ≤ length table
-granted_long text table n e = ⊎_elim
-    (λ (short : length table < places). never n _ (sym (cond-false _ _ _ (lt-leb places (length table) short)) ∙ e))
-    (λ (long : places ≤ length table). long)
-    (cases_lt (length table) places)
-
--- the first places overwritten
-pub clears : (before zeros : List ℤ) → places ≤ length before → length zeros ≡ length (take places before)
-    → ((k : ℕ) → k < length (take places before) → get_or zeros k (pos 0) ≡ pos 0) → Cleared before (zeros ++ drop places before)
-clears before zeros long same zero =
-    let taken : length (take places before) ≡ places = length-take-le places before long in
-    let front : length zeros ≡ places = same ∙ taken in
-    record {
-      each_zero = λ k h. get_or_append_left zeros (drop places before) (pos 0) k (omega arith) ∙ zero k (omega arith);
-      later_kept = drop_at zeros (drop places before) places front;
-      length_kept = simp (length-append, length-drop) (omega arith);
+      later_entries = drop_at written (drop places before) places same;
+      same_length = simp (length-append, length-drop) (omega arith);
+      same_meaning = means text (written ++ drop places before) each;
     }

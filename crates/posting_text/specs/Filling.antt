@@ -4,17 +4,13 @@ use Rattle.faults.specs.declared.Spot.{Spot}
 use Rattle.faults.specs.declared.Fault.{Fault}
 use Rattle.faults.specs.declared.Why.TheVariants.{Short}
 use Rattle.faults.specs.Faults.{fault}
-use Rattle.posting.specs.Limits.{buses, columns}
+use Rattle.posting.specs.Limits.{buses, places}
 use Rattle.posting.specs.Meanings.{table_grid}
 use Rattle.posting_text.specs.declared.entries.Entry.{Entry}
 use Rattle.posting_text.specs.Lines.{line_entry}
 use Rattle.posting_text.specs.Texts.{checking}
 use Rattle.posting_text.specs.Direct.{direct_number}
 use Rattle.posting_text.specs.Meanings.{direct_grid}
-
--- a place for each bus and column
-abbrev pub places : ℕ
-places = columns * buses
 
 -- the table after one line more: the line's number at its place, where the line is right
 abbrev pub table_after : List ℤ → Result Entry Spot → List ℤ
@@ -24,12 +20,6 @@ table_after table (Err s) = table
 abbrev pub table_from : List ℤ → List (List ℕ) → List ℤ
 table_from table [] = table
 table_from table (l ∷ ls) = table_from (table_after table (line_entry l)) ls
-
--- 0 at every place, and later entries as they were
-pub record Cleared (before after : List ℤ) : Type 0 where
-  pub each_zero : (k : ℕ) → k < places → slice_index_or after k (pos 0) ≡ pos 0
-  pub later_kept : drop places after ≡ drop places before
-  pub length_kept : length after ≡ length before
 
 -- a table of 8,192 entries and more, and then a text in order
 abbrev pub granting : List ℕ → List ℤ → Result ℕ Fault

@@ -13,6 +13,7 @@ use faults::{Fault, in_line};
 fn count_lines(text: &[u8]) -> Result<u64, Fault>
     ensures { result ≡ checking text.now }
 {
+    // No `for` over the complete lines: what follows the last line end is faulted too.
     let mut rest = text;
     let mut count = 0;
     while !rest.is_empty() {

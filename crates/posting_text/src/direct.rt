@@ -1,7 +1,7 @@
 // A posting read from the lines of a text, right or wrong.
 ghost use Rattle.std.specs.Prelude.{◌≡◌, ◌&&◌, ◌==◌};
-ghost use Rattle.posting_text.specs.Lines.{line_entry};
-ghost use Rattle.posting_text.specs.Direct.{number_after, direct_number};
+ghost use Rattle.posting_text.specs.Texts.{lines};
+ghost use Rattle.posting_text.specs.Direct.{last_entry};
 ghost use Rattle.posting_text.specs.Meanings.{direct_grid};
 ghost use Rattle.posting_text.specs.Laws.{DirectLaws};
 
@@ -11,7 +11,7 @@ use crate::texts::Lines;
 use posting::Posting;
 
 // The last complete line of right form and values for a bus and column counts, and 0 where there is none.
-#[derive(Clone, Copy)]
+#[derive(Clone, Copy, PartialEq, Eq, Debug)]
 pub struct Direct<'a> {
     pub text: &'a [u8],
 }
@@ -31,42 +31,25 @@ impl Entry {
     fn is_at(self, bus: usize, column: usize) -> bool
         ensures { result ≡ (self.bus == bus && self.column == column) }
     {
-        self.bus as usize == bus && self.column as usize == column
+        usize::from(self.bus) == bus && usize::from(self.column) == column
     }
 }
 
-// The number of a bus and column after one line more.
-fn number_after(line: &[u8], bus: usize, column: usize, number: i32) -> i32
-    ensures { result ≡ number_after bus column number (line_entry line.now) }
+// The last right line's entry for a bus and column.
+fn last_entry(text: &[u8], bus: usize, column: usize) -> Option<Entry>
+    ensures { result ≡ last_entry bus column (lines text.now) }
 {
-    match read_entry(line) {
-        Ok(entry) => {
-            if entry.is_at(bus, column) {
-                entry.number
-            } else {
-                number
-            }
-        }
-        Err(_) => number,
-    }
-}
-
-// The number that a text has for a bus and column.
-fn last_number(text: &[u8], bus: usize, column: usize) -> i32
-    ensures { result ≡ direct_number text.now bus column }
-{
-    let mut lines = Lines { rest: text };
-    let mut number = 0;
-    while let Some(line) = lines.next() {
-        number = number_after(line, bus, column, number);
-    }
-    number
+    Lines::of(text)
+        .filter_map(|line| read_entry(line).ok())
+        .filter(|entry| entry.is_at(bus, column))
+        .last()
 }
 
 impl Posting for Direct<'_> {
     ghost grid = { λ d. direct_grid d.text.now };
 
+    #[tactic(auto, using(crate::proofs::LastEntry::direct_last), unfolding(crate::specs::Meanings::direct_grid))]
     fn number(&self, bus: usize, column: usize) -> i32 {
-        last_number(self.text, bus, column)
+        last_entry(self.text, bus, column).map_or(0, |entry| entry.number)
     }
 }

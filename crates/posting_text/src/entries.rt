@@ -1,19 +1,13 @@
 // The entry that a posting line's numbers make, or the refusal of the first that is outside its limits.
-ghost use Rattle.std.specs.Prelude.{◌≡◌, ◌≤◌};
-ghost use Rattle.posting.specs.Limits.{buses};
-ghost use Rattle.posting_text.specs.Entries.{index_below, postable, entry_of};
+ghost use Rattle.std.specs.Prelude.{◌≡◌};
+ghost use Rattle.posting_text.specs.Entries.{entry_of};
 
 use faults::{Spot, at};
+use posting::limits::{COLUMNS, counts};
 use refusals::Refusal;
 
-const BUSES: u16 = 256;
-
-const COLUMNS: u16 = 32;
-// either way from 0
-const MOST_POSTED: i64 = 1_000_000;
-
 // The numbers in a line's fields.
-#[derive(Clone, Copy)]
+#[derive(Clone, Copy, PartialEq, Eq, Debug)]
 pub struct Numbers {
     pub bus: i64,
     pub column: i64,
@@ -21,37 +15,11 @@ pub struct Numbers {
 }
 
 // The number that a line posts for a bus and column.
-#[derive(Clone, Copy)]
+#[derive(Clone, Copy, PartialEq, Eq, Debug)]
 pub struct Entry {
     pub bus: u8,
     pub column: u8,
     pub number: i32,
-}
-
-// The value as an index below `count`, or the refusal.
-fn index_below(value: i64, count: u16, refusal: Refusal) -> Result<u8, Refusal>
-    requires { count ≤ buses }
-    ensures { result ≡ index_below count refusal value }
-{
-    if value < 0 {
-        return Err(refusal);
-    }
-    if value < i64::from(count) {
-        Ok(value as u8)
-    } else {
-        Err(refusal)
-    }
-}
-
-// The value as a number that may be posted, or the refusal.
-fn posted(value: i64) -> Result<i32, Refusal>
-    ensures { result ≡ postable value }
-{
-    if value < -MOST_POSTED || value > MOST_POSTED {
-        Err(Refusal::PostedOutside)
-    } else {
-        Ok(value as i32)
-    }
 }
 
 impl Numbers {
@@ -59,12 +27,17 @@ impl Numbers {
     pub fn entry(self) -> Result<Entry, Spot>
         ensures { result ≡ entry_of self }
     {
-        let bus = at(2, index_below(self.bus, BUSES, Refusal::BusOutside))?;
-        let column = at(
-            3,
-            index_below(self.column, COLUMNS, Refusal::ConstraintOutside),
-        )?;
-        let number = at(4, posted(self.value))?;
+        let bus = at(2, u8::try_from(self.bus).or(Err(Refusal::BusOutside)))?;
+        let column = u8::try_from(self.column)
+            .ok()
+            .filter(|column| usize::from(*column) < COLUMNS)
+            .ok_or(Refusal::ConstraintOutside);
+        let column = at(3, column)?;
+        let number = i32::try_from(self.value)
+            .ok()
+            .filter(|number| counts(*number))
+            .ok_or(Refusal::PostedOutside);
+        let number = at(4, number)?;
         Ok(Entry {
             bus,
             column,

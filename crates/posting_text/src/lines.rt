@@ -12,7 +12,7 @@ use decimals::read_decimal;
 use faults::{Spot, at};
 
 // The fields behind the letter F.
-#[derive(Clone, Copy)]
+#[derive(Clone, Copy, PartialEq, Eq, Debug)]
 pub struct PostingLine<'a> {
     bus: &'a [u8],
     column: &'a [u8],
@@ -36,11 +36,8 @@ impl<'a> PostingLine<'a> {
         ensures { ReadLine pieces numbers_of (split comma line.now) result }
     {
         let (first, fields) = Fields::of(line);
-        let Some(letter) = read_letter(first) else {
-            return Err(malformed(1));
-        };
-        match letter {
-            'F' => after_letter(fields),
+        match read_letter(first) {
+            Some('F') => after_letter(fields),
             _ => Err(malformed(1)),
         }
     }

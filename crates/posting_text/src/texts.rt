@@ -1,5 +1,6 @@
 // The lines of a posting text, one after the other.
-ghost use Rattle.std.specs.Prelude.{◌≡◌, [], ◌∷◌, Ok, Err, MatchOption, MatchResult};
+ghost use Rattle.std.specs.Prelude.{◌≡◌, Ok, Err, MatchResult};
+ghost use Rattle.std.specs.Iterator.{YieldsFirstRef, item_count};
 ghost use Rattle.posting_text.specs.Texts.{lines, past_line};
 
 use crate::lines::read_numbers;
@@ -7,20 +8,31 @@ use cuts::fields::malformed;
 use cuts::pieces::cut;
 use faults::Spot;
 
-// What is left of a text, from a line on.
+// The complete lines of a text, in order; what follows the last line end is none.
 #[derive(Drop)]
 pub struct Lines<'a> {
-    pub rest: &'a [u8],
+    rest: &'a [u8],
 }
 
 impl<'a> Lines<'a> {
-    // The next complete line; what follows the last line end is none.
-    pub fn next(&mut self) -> Option<&'a [u8]>
-        ensures { MatchOption result ((lines self.old.rest.now ≡ []) × (self.new.rest.now ≡ self.old.rest.now)) (λ l. lines self.old.rest.now ≡ l.now ∷ lines self.new.rest.now) }
+    // All lines of a text.
+    pub fn of(text: &'a [u8]) -> Lines<'a>
+        ensures { lines result.rest.now ≡ lines text.now }
     {
-        let (line, after) = cut(self.rest, b'\n');
-        let rest = after?;
-        self.rest = rest;
+        Lines { rest: text }
+    }
+}
+
+impl<'a> Iterator for Lines<'a> {
+    type Item = &'a [u8];
+
+    ghost next_gives = { YieldsFirstRef (λ l. lines l.rest.now) };
+
+    ghost remaining = { item_count (λ l. lines l.rest.now) };
+
+    fn next(&mut self) -> Option<&'a [u8]> {
+        let (line, rest) = cut(self.rest, b'\n');
+        self.rest = rest?;
         Some(line)
     }
 }
@@ -31,9 +43,7 @@ pub fn past_line(text: &[u8]) -> Result<&[u8], Spot>
 {
     let (line, after) = cut(text, b'\n');
     let numbers = read_numbers(line)?;
-    let Some(rest) = after else {
-        return Err(malformed(0));
-    };
-    let _ = numbers.entry()?;
+    let rest = after.ok_or(malformed(0))?;
+    numbers.entry()?;
     Ok(rest)
 }

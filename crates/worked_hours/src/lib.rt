@@ -13,9 +13,8 @@ use hour::book::Book;
 use hour::calls::Call;
 use hour::records::Market;
 use posting::table::Table;
-use pricing::day_ahead_market::DayAhead;
-use pricing::markets::point_price;
 use pricing::origins::Origin;
+use pricing::points::day_ahead_point;
 use refusals::Refusal;
 use weighting::points::{Kind, Point};
 
@@ -26,16 +25,11 @@ pub fn worked_hours() -> Result<(i64, Origin), Refusal>
 {
     let book = worked_book(&hour_n());
     let factors = factors_n();
-    let table = Table::over(&factors);
-    let market = DayAhead {
-        book: &book,
-        posting: &table,
-    };
     let north = Point {
         kind: Kind::Hub,
         number: 1,
     };
-    point_price(&market, north)
+    day_ahead_point(&book, &Table::over(&factors), north)
 }
 
 // A fresh book after a list of calls.

@@ -14,7 +14,7 @@ returns c =
     let book = c.worked_book-book.result in
     record {
       rows = worked_rows;
-      north = worked_rows.north book (c.worked_book-book.ensures ∙ ap (worked fresh) c.hour_n.ensures) c.point_price.result
-          (subst (λ (numbers : List ℤ). PricedAt (λ m. day_ahead_price m (table_grid numbers) book) (hub 1) c.point_price.result)
-          (c.over-table.ensures.made ∙ c.factors_n-factors.ensures) c.point_price.ensures);
+      north = worked_rows.north book (c.worked_book-book.ensures ∙ ap (worked fresh) c.hour_n.ensures) c.day_ahead_point.result
+          (subst (λ (numbers : List ℤ). PricedAt (λ m. day_ahead_price m (table_grid numbers) book) (hub 1) c.day_ahead_point.result)
+          (c.over.ensures.made ∙ c.factors_n-factors.ensures) c.day_ahead_point.ensures.value);
     }

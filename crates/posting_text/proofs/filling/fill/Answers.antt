@@ -1,28 +1,30 @@
-use Rattle.std.proofs.Common.{Ok, Err, refl}
-use Rattle.std.proofs.lemmas.Result.{err_from_is_err_and}
-use Rattle.std.proofs.lemmas.Bool.{false≢true}
-use Rattle.posting_text.proofs.Tabling.{fills, granted_long}
-use Rattle.posting_text.proofs.CheckLaws.{grant_says}
+use Rattle.std.proofs.Common.{◌≡◌, length, pos, sym, refl, ap, ◌∙◌, arith}
+use Rattle.std.proofs.lemmas.List.{take-append-drop, length-take-le}
+use Rattle.std.proofs.lemmas.Option.{MatchOption-at_some}
+use Rattle.posting.specs.Limits.{places}
+use Rattle.posting_text.proofs.Tabling.{fills}
+use Rattle.posting_text.proofs.CheckLaws.{grant_long}
 use Rattle.posting_text.proofs.filling.fill.Goals as goal
 
-pub returns : goal.returns
-returns c =
-    let g = c.in_ok-grant.ensures in
-    record {
-      granted = g;
-      says = grant_says c.args.text.now c.args.table.now (Ok tt) g;
-      kept = λ e. absurd (false≢true e);
-      filled = fills c.args.text.now c.args.table.now c.clear.new.table c.write_lines.new.table
-          (granted_long c.args.text.now c.args.table.now g.0 g.1) c.clear.ensures c.write_lines.ensures;
-    }
+pub returns-in_err-check-clause-kept : goal.returns-in_err-check-clause-kept
+returns-in_err-check-clause-kept c =
+    let taken = MatchOption-at_some _ _ _ c.in_ok-places.ensures.ok_part c.first_chunk_mut.ensures.cases in
+    λ _. rw taken.same (take-append-drop places c.args.table.now)
 
-pub returns-in_err-grant : goal.returns-in_err-grant
-returns-in_err-grant c =
-    let p = err_from_is_err_and c.from_residual.result c.from_residual.ensures.1 in
-    let refused = c.in_err-grant.ensures in
-    record {
-      granted = rw (p.1, p.2) refused;
-      says = rw (p.1, p.2) (grant_says c.args.text.now c.args.table.now (Err c.in_err-grant.field-0.0) refused);
-      kept = λ _. refl;
-      filled = rw p.1 tt;
-    }
+pub returns-clause-granted : goal.returns-clause-granted
+returns-clause-granted c =
+    let taken = MatchOption-at_some _ _ _ c.in_ok-places.ensures.ok_part c.first_chunk_mut.ensures.cases in
+    (c.in_ok-check.field-0, sym (c.in_ok-check.ensures.value ∙ grant_long c.args.text.now c.args.table.now taken.enough))
+
+pub returns-clause-says : goal.returns-clause-says
+returns-clause-says c =
+    let taken = MatchOption-at_some _ _ _ c.in_ok-places.ensures.ok_part c.first_chunk_mut.ensures.cases in
+    (taken.enough, (c.in_ok-check.field-0, c.in_ok-check.ensures.says))
+
+pub returns-clause-filled : goal.returns-clause-filled
+returns-clause-filled c =
+    let taken = MatchOption-at_some _ _ _ c.in_ok-places.ensures.ok_part c.first_chunk_mut.ensures.cases in
+    let front : length c.fill.new.self ≡ places = c.fill.ensures.len ∙ ap length taken.same ∙ length-take-le places c.args.table.now taken.enough in
+    rw c.write_lines.ensures
+    (fills c.args.text.now c.args.table.now c.fill.new.self taken.enough front
+    (λ k h. c.fill.ensures.clones k (pos 0) (omega (arith, front, c.fill.ensures.len)) refl))
