@@ -1,3 +1,4 @@
+pub mod FromFn
 pub mod Sums
 pub mod Members
 pub mod Shares

@@ -4,6 +4,7 @@ ghost use Rattle.weighting.specs.Views.{View, view};
 ghost use Rattle.weighting.specs.declared.cases.Case.{Case};
 
 use crate::cases::Case;
+use std::array;
 
 pub trait BusWeight {
     // whether what is known of the book belongs to the case
@@ -21,9 +22,11 @@ pub fn each<T: BusWeight>(one: &T, case: &Case) -> [u32; 256]
     requires { T.BusWeight.fits one.now case.now }
     ensures { (b : ℕ) → b < 256 → slice_index result b ≡ T.BusWeight.own one.now (view case.now) b }
 {
-    let mut all = [0u32; 256];
-    for bus in 0..256usize {
-        all[bus] = one.weight(case, bus as u8);
-    }
-    all
+    array::from_fn(
+        |bus| -> u32
+            requires low { bus < 256 }
+            requires fits { T.BusWeight.fits one.now case.now }
+            ensures { result ≡ T.BusWeight.own one.entry.now (view case.entry.now) bus }
+        { one.weight(case, bus as u8) },
+    )
 }
