@@ -1,5 +1,5 @@
 // Hubs: each hub bus with a live bus weighs 840, which its live buses share evenly.
-ghost use Rattle.std.specs.Prelude.{◌≡◌, ℕ, ◌/◌, ◌<◌, ◌&&◌};
+ghost use Rattle.std.specs.Prelude.{◌≡◌, ℕ, pos, ◌/◌, ◌<◌, ◌&&◌};
 ghost use Rattle.bus_set.specs.Sets.{SetOf, member, count_below};
 ghost use Rattle.hour.specs.Hour.{entries};
 ghost use Rattle.hour.specs.Live.{belongs};
@@ -22,7 +22,7 @@ use refusals::Refusal;
 const UNIT: u32 = 840;
 
 // The five hubs, and the ERCOT average of the first four.
-#[derive(Clone, Copy)]
+#[derive(Clone, Copy, PartialEq, Eq, Debug)]
 pub enum Hub {
     North,
     South,
@@ -32,11 +32,13 @@ pub enum Hub {
     Average,
 }
 
-impl Hub {
-    // The hub of a number.
-    pub fn numbered(number: i64) -> Result<Hub, Refusal>
-        ensures { PointOf hub_number number result }
-    {
+// The hub of a number.
+impl TryFrom<i64> for Hub {
+    type Error = Refusal;
+
+    ghost try_from_gives = { PointOf hub_number };
+
+    fn try_from(number: i64) -> Result<Hub, Refusal> {
         match number {
             1 => Ok(Hub::North),
             2 => Ok(Hub::South),
@@ -47,7 +49,25 @@ impl Hub {
             _ => Err(Refusal::PointOutside),
         }
     }
+}
 
+// The number by which a hub is named.
+impl From<Hub> for i64 {
+    ghost from_gives = { λ hub number. number ≡ pos (hub_number hub) };
+
+    fn from(hub: Hub) -> i64 {
+        match hub {
+            Hub::North => 1,
+            Hub::South => 2,
+            Hub::Houston => 3,
+            Hub::West => 4,
+            Hub::Panhandle => 5,
+            Hub::Average => 6,
+        }
+    }
+}
+
+impl Hub {
     fn first(self) -> u8
         ensures { result ≡ first_of self }
     {

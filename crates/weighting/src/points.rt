@@ -36,9 +36,9 @@ pub fn weigh(book: &Book, point: Point, constraint: Option<i64>) -> Result<Weigh
     ensures { WeighedAt book.now point constraint result }
 {
     match point.kind {
-        Kind::Hub => weigh_in(&Hub::numbered(point.number)?, book, constraint),
-        Kind::Zone => weigh_in(&Zone::numbered(point.number)?, book, constraint),
-        Kind::Tie => weigh_in(&Tie::numbered(point.number)?, book, constraint),
+        Kind::Hub => weigh_in(&Hub::try_from(point.number)?, book, constraint),
+        Kind::Zone => weigh_in(&Zone::try_from(point.number)?, book, constraint),
+        Kind::Tie => weigh_in(&Tie::try_from(point.number)?, book, constraint),
     }
 }
 
