@@ -4,3 +4,4 @@ pub mod Members
 pub mod Shares
 pub mod Marks
 pub mod Weighed
+pub mod SettlementPoints
