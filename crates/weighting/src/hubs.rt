@@ -1,6 +1,7 @@
 // Hubs: each hub bus with a live bus weighs 840, which its live buses share evenly.
-ghost use Rattle.std.specs.Prelude.{◌≡◌, ℕ, pos, ◌/◌, ◌<◌, ◌&&◌};
-ghost use Rattle.bus_set.specs.Sets.{SetOf, member, count_below};
+ghost use Rattle.std.specs.Prelude.{◌≡◌, ℕ, false, pos, ◌/◌, ◌<◌};
+ghost use Rattle.std.specs.Range.{range_inclusive_start, range_inclusive_end, range_inclusive_exhausted};
+ghost use Rattle.bus_set.specs.Sets.{SetOf};
 ghost use Rattle.hour.specs.Hour.{entries};
 ghost use Rattle.hour.specs.Live.{belongs};
 ghost use Rattle.weighting.specs.Views.{view};
@@ -8,7 +9,7 @@ ghost use Rattle.weighting.specs.Meanings.{WeightsOf};
 ghost use Rattle.weighting.specs.Points.{PointOf};
 ghost use Rattle.weighting.specs.Members.{MembersOf};
 ghost use Rattle.weighting.specs.Shares.{HubShares};
-ghost use Rattle.weighting.specs.Hubs.{unit, hub_number, first_of, last_of, of_hub, hub_weight};
+ghost use Rattle.weighting.specs.Hubs.{unit, hub_number, first_of, last_of, of_hub, live_of, hub_weight};
 ghost use Rattle.weighting.specs.HubLaws.{hub_meaning};
 
 use crate::cases::Case;
@@ -17,6 +18,7 @@ use crate::weightings::Weighting;
 use bus_set::{BusSet, both, count, marked};
 use hour::book::Book;
 use refusals::Refusal;
+use std::ops::RangeInclusive;
 
 // The weight of a hub bus: the least number that 1 to 8 divide.
 const UNIT: u32 = 840;
@@ -68,29 +70,19 @@ impl From<Hub> for i64 {
 }
 
 impl Hub {
-    fn first(self) -> u8
-        ensures { result ≡ first_of self }
+    // The numbers of the hub's hub buses.
+    fn hub_buses(self) -> RangeInclusive<u8>
+        ensures first { range_inclusive_start result ≡ first_of self }
+        ensures last { range_inclusive_end result ≡ last_of self }
+        ensures whole { range_inclusive_exhausted result ≡ false }
     {
         match self {
-            Hub::North => 1,
-            Hub::South => 76,
-            Hub::Houston => 107,
-            Hub::West => 127,
-            Hub::Panhandle => 144,
-            Hub::Average => 1,
-        }
-    }
-
-    fn last(self) -> u8
-        ensures { result ≡ last_of self }
-    {
-        match self {
-            Hub::North => 75,
-            Hub::South => 106,
-            Hub::Houston => 126,
-            Hub::West => 143,
-            Hub::Panhandle => 155,
-            Hub::Average => 143,
+            Hub::North => 1..=75,
+            Hub::South => 76..=106,
+            Hub::Houston => 107..=126,
+            Hub::West => 127..=143,
+            Hub::Panhandle => 144..=155,
+            Hub::Average => 1..=143,
         }
     }
 
@@ -98,7 +90,7 @@ impl Hub {
     pub fn has(self, hub_bus: u8) -> bool
         ensures { result ≡ of_hub self hub_bus }
     {
-        self.first() <= hub_bus && hub_bus <= self.last()
+        self.hub_buses().contains(&hub_bus)
     }
 
     // The shares of the hub's live buses, in 840ths of their hub bus.
@@ -121,6 +113,17 @@ pub struct Sharing {
     members: [BusSet; 156],
 }
 
+impl Sharing {
+    // How many buses of a hub bus are live in the case.
+    fn live_buses(&self, case: &Case, hub_bus: u8) -> u32
+        requires members { MembersOf (entries case.now.book.now) self.now.members }
+        requires row { hub_bus < 156 }
+        ensures { result ≡ live_of (view case.now) hub_bus }
+    {
+        count(both(case.live, self.members[usize::from(hub_bus)]))
+    }
+}
+
 impl BusWeight for Sharing {
     ghost fits = { λ s c. MembersOf (entries c.book.now) s.members };
 
@@ -129,7 +132,7 @@ impl BusWeight for Sharing {
     fn weight(&self, case: &Case, bus: u8) -> u32 {
         let hub_bus = case.hub_bus(bus);
         if case.is_live(bus) && self.hub.has(hub_bus) {
-            share(live_in(case.live, self.members[hub_bus as usize]))
+            share(self.live_buses(case, hub_bus))
         } else {
             0
         }
@@ -150,13 +153,6 @@ fn share(live: u32) -> u32
     ensures { result ≡ unit / live }
 {
     UNIT / live
-}
-
-// How many of the live buses are members.
-fn live_in(live: BusSet, members: BusSet) -> u32
-    ensures { result ≡ count_below (λ b. member live b && member members b) 256 }
-{
-    count(both(live, members))
 }
 
 // The members of every hub bus, in one pass over the buses.

@@ -48,11 +48,7 @@ impl BusWeight for Tie {
     ghost own = { λ t. when_live (tie_own t.bus) };
 
     fn weight(&self, case: &Case, bus: u8) -> u32 {
-        if case.is_live(bus) && bus == self.bus {
-            1
-        } else {
-            0
-        }
+        u32::from(case.is_live(bus) && bus == self.bus)
     }
 }
 

@@ -50,7 +50,7 @@ impl BusWeight for Zone {
 
     fn weight(&self, case: &Case, bus: u8) -> u32 {
         if case.is_live(bus) && case.zone(bus) == self.number {
-            case.load(bus) as u32
+            u32::from(case.load(bus))
         } else {
             0
         }
