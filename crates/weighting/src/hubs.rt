@@ -160,11 +160,9 @@ pub fn members_of(book: &Book) -> [BusSet; 156]
     ensures { MembersOf (entries book.now) result }
 {
     let mut all = [[0u64; 4]; 156];
-    for b in 0..256usize {
-        let k = book.bus(b as u8).hub_bus as usize;
-        let row = all[k];
-        let next = marked(row, b as u8, true);
-        all[k] = next;
+    for (bus, record) in book.buses().enumerate() {
+        let k = usize::from(record.hub_bus);
+        all[k] = marked(all[k], bus as u8, true);
     }
     all
 }
