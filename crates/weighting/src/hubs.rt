@@ -13,7 +13,7 @@ ghost use Rattle.weighting.specs.Hubs.{unit, hub_number, first_of, last_of, of_h
 ghost use Rattle.weighting.specs.HubLaws.{hub_meaning};
 
 use crate::cases::Case;
-use crate::each::{BusWeight, each};
+use crate::each::each;
 use crate::weightings::Weighting;
 use bus_set::{BusSet, both, count, marked};
 use hour::book::Book;
@@ -98,41 +98,18 @@ impl Hub {
         ensures weights { WeightsOf (hub_meaning self) (view case.now) result }
         ensures shares { HubShares self (view case.now) result }
     {
-        let sharing = Sharing {
-            hub: self,
-            members: members_of(case.book),
-        };
-        each(&sharing, case)
+        let members = members_of(case.book);
+        each(|bus| self.share(case, &members, bus))
     }
-}
 
-// A hub beside the members of every hub bus, sorted once for all buses.
-#[derive(Clone, Copy)]
-pub struct Sharing {
-    hub: Hub,
-    members: [BusSet; 156],
-}
-
-impl Sharing {
-    // How many buses of a hub bus are live in the case.
-    fn live_buses(&self, case: &Case, hub_bus: u8) -> u32
-        requires members { MembersOf (entries case.now.book.now) self.now.members }
-        requires row { hub_bus < 156 }
-        ensures { result ≡ live_of (view case.now) hub_bus }
+    // What a bus weighs, with the members of every hub bus at hand.
+    fn share(self, case: &Case, members: &[BusSet; 156], bus: u8) -> u32
+        requires { MembersOf (entries case.now.book.now) members.now }
+        ensures { result ≡ hub_weight self (view case.now) bus }
     {
-        count(both(case.live, self.members[usize::from(hub_bus)]))
-    }
-}
-
-impl BusWeight for Sharing {
-    ghost fits = { λ s c. MembersOf (entries c.book.now) s.members };
-
-    ghost own = { λ s. hub_weight s.hub };
-
-    fn weight(&self, case: &Case, bus: u8) -> u32 {
         let hub_bus = case.hub_bus(bus);
-        if case.is_live(bus) && self.hub.has(hub_bus) {
-            share(self.live_buses(case, hub_bus))
+        if case.is_live(bus) && self.has(hub_bus) {
+            UNIT / live_buses(case, members, hub_bus)
         } else {
             0
         }
@@ -147,12 +124,13 @@ impl Weighting for Hub {
     }
 }
 
-// What each of a hub bus's live buses weighs.
-fn share(live: u32) -> u32
-    requires { 0 < live }
-    ensures { result ≡ unit / live }
+// How many buses of a hub bus are live in the case.
+fn live_buses(case: &Case, members: &[BusSet; 156], hub_bus: u8) -> u32
+    requires members { MembersOf (entries case.now.book.now) members.now }
+    requires row { hub_bus < 156 }
+    ensures { result ≡ live_of (view case.now) hub_bus }
 {
-    UNIT / live
+    count(both(case.live, members[usize::from(hub_bus)]))
 }
 
 // The members of every hub bus, in one pass over the buses.

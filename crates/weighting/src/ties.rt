@@ -8,7 +8,7 @@ ghost use Rattle.weighting.specs.Shares.{TieShares};
 ghost use Rattle.weighting.specs.Ties.{tie_own, tie_meaning};
 
 use crate::cases::Case;
-use crate::each::{BusWeight, each};
+use crate::each::each;
 use crate::weightings::Weighting;
 use refusals::Refusal;
 
@@ -38,17 +38,7 @@ impl Tie {
         ensures weights { WeightsOf (tie_meaning self.bus) (view case.now) result }
         ensures shares { TieShares self.bus (view case.now) result }
     {
-        each(&self, case)
-    }
-}
-
-impl BusWeight for Tie {
-    ghost fits = { λ t c. Unit {0} };
-
-    ghost own = { λ t. when_live (tie_own t.bus) };
-
-    fn weight(&self, case: &Case, bus: u8) -> u32 {
-        u32::from(case.is_live(bus) && bus == self.bus)
+        each(|bus| u32::from(case.is_live(bus) && bus == self.bus))
     }
 }
 

@@ -8,7 +8,7 @@ ghost use Rattle.weighting.specs.Shares.{ZoneShares};
 ghost use Rattle.weighting.specs.Zones.{zone_own, zone_meaning};
 
 use crate::cases::Case;
-use crate::each::{BusWeight, each};
+use crate::each::each;
 use crate::weightings::Weighting;
 use refusals::Refusal;
 
@@ -39,21 +39,13 @@ impl Zone {
         ensures weights { WeightsOf (zone_meaning self.number) (view case.now) result }
         ensures shares { ZoneShares self.number (view case.now) result }
     {
-        each(&self, case)
-    }
-}
-
-impl BusWeight for Zone {
-    ghost fits = { λ z c. Unit {0} };
-
-    ghost own = { λ z. when_live (zone_own z.number) };
-
-    fn weight(&self, case: &Case, bus: u8) -> u32 {
-        if case.is_live(bus) && case.zone(bus) == self.number {
-            u32::from(case.load(bus))
-        } else {
-            0
-        }
+        each(|bus| {
+            if case.is_live(bus) && case.zone(bus) == self.number {
+                u32::from(case.load(bus))
+            } else {
+                0
+            }
+        })
     }
 }
 
