@@ -1,10 +1,12 @@
 -- When the price of a point stands: what one hour answers, another does too.
-use Rattle.std.proofs.Common.{◌≡◌, ℕ, eqb, ℤ, pos, Result, ap, ◌∙◌, subst, ap₂, ⊎_elim}
+use Rattle.std.proofs.Common.{◌≡◌, ℕ, eqb, ℤ, pos, Err, Result, ap, ◌∙◌, subst, ap₂, ⊎_elim}
 use Rattle.std.proofs.lemmas.Bool.{cases_eq, cond-true, cond-false, eq-eqb, ne_eqb}
 use Rattle.refusals.specs.declared.Refusal.{Refusal}
+use Rattle.refusals.specs.declared.Refusal.TheVariants.{PointOutside}
 use Rattle.weighting.specs.Hubs.{hub_total}
 use Rattle.weighting.specs.HubLaws.{hub_meaning}
 use Rattle.weighting.specs.Meanings.{Meaning}
+use Rattle.weighting.specs.SettlementPoints.{OfNumber}
 use Rattle.weighting.specs.Views.{View}
 use Rattle.weighting.specs.declared.hubs.Hub.{Hub}
 use Rattle.weighting.specs.declared.hubs.Hub.TheVariants.{Average}
@@ -12,7 +14,7 @@ use Rattle.weighting.specs.declared.points.Kind.{Kind}
 use Rattle.weighting.specs.declared.points.Kind.TheVariants as kind
 use Rattle.weighting.specs.declared.points.Point.{Point}
 use Rattle.pricing.specs.Origins.{Priced, own_price, hub_price}
-use Rattle.pricing.specs.Points.{PriceOf, hub_priced, PriceOfKind, PricedAt}
+use Rattle.pricing.specs.Points.{hub_priced, PricedAt}
 use Rattle.pricing.specs.Taken.{hub_takes, TakenByKind, OfTaken}
 
 -- two hours' prices, where something holds of a weighting
@@ -25,7 +27,7 @@ pub record Stands (price price' : Meaning → Result ℤ Refusal) (base : View) 
   pub alone : (m : Meaning) → (m.total base ≡ 0 → ⊥) → (a b : Result ℤ Refusal) → hub_price (price m) a ≡ hub_price (price m) b
 
 price_of : {T : Type 0} (number_of : T → ℕ) (priced priced' : T → Priced) (z : ℤ) (r : Priced) → ((p : T) → z ≡ pos (number_of p) → priced p ≡ priced' p)
-    → PriceOf number_of priced z r → PriceOf number_of priced' z r
+    → OfNumber number_of (λ p. r ≡ priced p) (r ≡ Err PointOutside) z → OfNumber number_of (λ p. r ≡ priced' p) (r ≡ Err PointOutside) z
 price_of number_of priced priced' z r same was = (λ p e. was.0 p e ∙ same p e, was.1)
 
 module _ (price price' : Meaning → Result ℤ Refusal) (base : View) (Of : Meaning → Type 0) (stands : Stands price price' base Of) where
@@ -44,7 +46,7 @@ module _ (price price' : Meaning → Result ℤ Refusal) (base : View) (Of : Mea
       ∙ ap (λ (x : Result ℤ Refusal). hub_price x (price' average)) (stands.priced_the_same own taken))
       (cases_eq total 0)
 
-  by_kind : (k : Kind) (z : ℤ) (r : Priced) → TakenByKind base k z Of → PriceOfKind price k z r → PriceOfKind price' k z r
+  by_kind : (k : Kind) (z : ℤ) (r : Priced) → TakenByKind base k z Of → PricedAt price (record { kind = k; number = z }) r → PricedAt price' (record { kind = k; number = z }) r
   by_kind kind.Hub z r of was = price_of _ _ _ z r (λ h e. hub_stands h (of h e)) was
   by_kind kind.Zone z r of was = price_of _ _ _ z r (λ a e. ap own_price (stands.priced_the_same _ (of a e))) was
   by_kind kind.Tie z r of was = price_of _ _ _ z r (λ t e. ap own_price (stands.priced_the_same _ (of t e))) was

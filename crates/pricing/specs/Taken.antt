@@ -5,7 +5,7 @@ use Rattle.weighting.specs.HubLaws.{hub_meaning}
 use Rattle.weighting.specs.Meanings.{Meaning}
 use Rattle.weighting.specs.Ties.{tie_meaning}
 use Rattle.weighting.specs.Views.{View}
-use Rattle.weighting.specs.Weighed.{zone_number, tie_bus}
+use Rattle.weighting.specs.SettlementPoints.{zone_number, tie_bus}
 use Rattle.weighting.specs.Zones.{zone_meaning}
 use Rattle.weighting.specs.declared.hubs.Hub.{Hub}
 use Rattle.weighting.specs.declared.hubs.Hub.TheVariants.{Average}

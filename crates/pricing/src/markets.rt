@@ -10,10 +10,8 @@ ghost use Rattle.pricing.specs.Points.{PricedAt};
 use crate::origins::{Origin, from_average, own_price};
 use refusals::Refusal;
 use weighting::hubs::Hub;
-use weighting::points::{Kind, Point};
-use weighting::ties::Tie;
+use weighting::points::{Point, SettlementPoint};
 use weighting::weightings::Weighting;
-use weighting::zones::Zone;
 
 // One book and one posting, priced in one market.
 pub trait Market {
@@ -28,20 +26,19 @@ pub trait Market {
 pub fn hub_price<M: Market>(market: &M, hub: Hub) -> Result<(i64, Origin), Refusal>
     ensures { result ≡ hub_price (M.Market.price market.now (hub_meaning hub)) (M.Market.price market.now (hub_meaning Average)) }
 {
-    match market.price_of(&hub) {
-        Ok(cents) => Ok((cents, Origin::Own)),
+    match own_price(market.price_of(&hub)) {
         Err(Refusal::NoWeight) => from_average(market.price_of(&Hub::Average)),
-        Err(refusal) => Err(refusal),
+        priced => priced,
     }
 }
 
 // The price of a hub, load zone or tie that someone names, with its origin. The point is looked at first.
+#[tactic(auto, using(weighting::proofs::SettlementPoints::of_none))]
 pub fn point_price<M: Market>(market: &M, point: Point) -> Result<(i64, Origin), Refusal>
     ensures { PricedAt (M.Market.price market.now) point result }
 {
-    match point.kind {
-        Kind::Hub => hub_price(market, Hub::numbered(point.number)?),
-        Kind::Zone => own_price(market.price_of(&Zone::numbered(point.number)?)),
-        Kind::Tie => own_price(market.price_of(&Tie::numbered(point.number)?)),
+    match SettlementPoint::try_from(point)? {
+        SettlementPoint::Hub(hub) => hub_price(market, hub),
+        point => own_price(market.price_of(&point)),
     }
 }

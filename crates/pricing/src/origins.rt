@@ -4,7 +4,7 @@ ghost use Rattle.pricing.specs.Origins.{letter, own_price, from_average};
 
 use refusals::Refusal;
 
-#[derive(Clone, Copy)]
+#[derive(Clone, Copy, PartialEq, Eq, Debug)]
 pub enum Origin {
     // The point's own weighting.
     Own,
@@ -31,19 +31,15 @@ impl Origin {
 pub fn own_price(price: Result<i64, Refusal>) -> Result<(i64, Origin), Refusal>
     ensures { result ≡ own_price price }
 {
-    match price {
-        Ok(cents) => Ok((cents, Origin::Own)),
-        Err(refusal) => Err(refusal),
-    }
+    price.map(|cents| (cents, Origin::Own))
 }
 
 // The average's price for a hub without live weight: 0 cents where the average has none either.
 pub fn from_average(average: Result<i64, Refusal>) -> Result<(i64, Origin), Refusal>
     ensures { result ≡ from_average average }
 {
-    match average {
-        Ok(cents) => Ok((cents, Origin::Average)),
+    match average.map(|cents| (cents, Origin::Average)) {
         Err(Refusal::NoWeight) => Ok((0, Origin::Nothing)),
-        Err(refusal) => Err(refusal),
+        priced => priced,
     }
 }

@@ -1,6 +1,6 @@
 -- Outage marks and weights.
-use Rattle.std.proofs.Common.{◌≡◌, ℕ, ◌<◌, Bool, true, false, not, ◌&&◌, eqb, ℤ, pos, Some, None, Option, sym, refl, ap, ◌∙◌, ap₂, ⊎_elim, arith}
-use Rattle.std.proofs.lemmas.Bool.{cases_Bool, both_ways, ne_eqb, cond-false}
+use Rattle.std.proofs.Common.{◌≡◌, ℕ, ◌<◌, Bool, true, false, not, ◌&&◌, eqb, ℤ, pos, Some, None, Option, sym, ap, ◌∙◌, ap₂, ⊎_elim, arith}
+use Rattle.std.proofs.lemmas.Bool.{and_right, cases_Bool, both_ways, ne_eqb, cond-false}
 use Rattle.bus_set.specs.Sets.{member}
 use Rattle.hour.specs.Hour.{Hour, entries, bus_at, constraint_at, out_of}
 use Rattle.hour.specs.Replays.{after}
@@ -22,10 +22,6 @@ never_some z e = let x : ◌≡◌ {A = ℕ} 0 1 = cc in omega arith
 
 same_number : (m n : ℕ) → Some (pos m) ≡ Some (pos n) → m ≡ n
 same_number m n e = cc
-
-and_false : (a c : Bool) → c ≡ false → (a && c) ≡ false
-and_false true c e = e
-and_false false c e = refl
 
 module _ (before behind : Book) (k b : ℕ) (on : Bool) (step : entries behind ≡ after (entries before) (Outage (pos k) (pos b) on)) where
   bus_stays : (i : ℕ) → bus_at (entries behind) i ≡ bus_at (entries before) i
@@ -60,7 +56,7 @@ module _ (before behind : Book) (k b : ℕ) (on : Bool) (step : entries behind �
       let mark : is_out (entries behind) k' i ≡ is_out (entries before) k' i =
       ap (λ (h : Hour). is_out h k' i) step
       ∙ laws.outage_sets_one_mark before k b on granted k' i low
-      ∙ cond-false (eqb k' k && eqb i b) on (is_out (entries before) k' i) (and_false (eqb k' k) (eqb i b) (ne_eqb i b other))
+      ∙ cond-false (eqb k' k && eqb i b) on (is_out (entries before) k' i) (and_right (eqb k' k) (eqb i b) (ne_eqb i b other))
       in
       ap₂ (λ (t o : Bool). t && not o) (base_stays i) mark)
       (λ (off : base_live (entries before) DayAhead i ≡ false).

@@ -1,5 +1,5 @@
 -- The weights of a hub in the words of the desk.
-use Rattle.std.proofs.Common.{◌≡◌, ℕ, ◌*◌, ◌/◌, ◌<◌, ◌≤◌, Bool, true, cond, ◌&&◌, eqb, ltb, List, get_or, sym, refl, ap, ◌∙◌, ⊎_elim}
+use Rattle.std.proofs.Common.{◌≡◌, ℕ, ◌*◌, ◌/◌, ◌<◌, ◌≤◌, Bool, true, cond, ◌&&◌, eqb, ltb, List, [], get_or, sym, refl, ap, ◌∙◌, ⊎_elim}
 use Rattle.std.proofs.lemmas.Bool.{cases_eq, and_from, cond-true, cond-false, eq-eqb, ne_eqb, lt-ltb}
 use Rattle.bus_set.specs.Sets.{member, SetOf, count_below}
 use Rattle.bus_set.proofs.Counts.{count_same, count_some}
@@ -11,9 +11,15 @@ use Rattle.weighting.specs.Shares.{HubShares}
 use Rattle.weighting.specs.declared.hubs.Hub.{Hub}
 
 -- the live buses among the members of a hub bus are its live buses
-pub live_members : (v : View) (row : List ℕ) (k : ℕ) → SetOf (λ b. eqb (v.hub_bus b) k) row → count_below (λ b. v.live b && member row b) 256 ≡ live_of v k
-live_members v row k is =
-    count_same (λ b. v.live b && member row b) (λ b. v.live b && eqb (v.hub_bus b) k) 256 (λ b l. ap (λ (t : Bool). v.live b && t) (is b l))
+pub live_members : (v : View) (rows : List (List ℕ)) (i k n : ℕ) (both : List ℕ) → i ≡ k → SetOf (λ b. eqb (v.hub_bus b) k) (get_or rows k [])
+    → SetOf (λ b. v.live b && member (get_or rows i []) b) both → n ≡ count_below (member both) 256 → n ≡ live_of v k
+live_members v rows i k n both at is joined counted =
+    counted ∙ count_same (member both) (λ b. v.live b && eqb (v.hub_bus b) k) 256
+    (λ b l. joined b l ∙ ap (λ (j : ℕ). v.live b && member (get_or rows j []) b) at ∙ ap (λ (t : Bool). v.live b && t) (is b l))
+
+-- a live bus is one of its hub bus
+pub some_live : (v : View) (b k : ℕ) → b < 256 → v.live b ≡ true → v.hub_bus b ≡ k → 0 < live_of v k
+some_live v b k low live of = count_some (λ i. v.live i && eqb (v.hub_bus i) k) 256 b low (and_from (v.live b) (eqb (v.hub_bus b) k) live (eq-eqb (v.hub_bus b) k of))
 
 -- what bus b of the hub bus k weighs
 of_column : (hub : Hub) (v : View) (k b : ℕ) → of_hub hub k ≡ true → cond (eqb (v.hub_bus b) k) (hub_weight hub v b) 0 ≡ part hub v b k
@@ -35,7 +41,7 @@ hub_shares hub v r is = record {
   shares_evenly = λ b low live of.
       let k = v.hub_bus b in
       let n = live_of v k in
-      let some : 1 ≤ n = count_some (λ i. v.live i && eqb (v.hub_bus i) k) 256 b low (and_from (v.live b) (eqb k k) live (eq-eqb k k refl)) in
+      let some : 1 ≤ n = some_live v b k low live refl in
       ap (λ (x : ℕ). x * n) (is b low ∙ cond-true (v.live b && of_hub hub k) (unit / n) 0 (and_from (v.live b) (of_hub hub k) live of))
       ∙ divides n some (few_live v k (of_hub_range hub k of).0);
   others_nothing = λ b low no'. is b low ∙ cond-false (v.live b && of_hub hub (v.hub_bus b)) (unit / live_of v (v.hub_bus b)) 0 no';

@@ -1,7 +1,7 @@
 -- The hub weighting has the four laws: its weights make 840 for each hub bus with a live bus.
 use Rattle.std.specs.Prelude.{◌≡◌, ℕ, zero, suc, ◌*◌, ◌/◌, ◌<◌, ◌≤◌, Bool, true, false, cond, ◌&&◌, ◌==◌, ◌≢◌, nat_eq, nat_le, nat_lt, refl}
 use Rattle.std.proofs.Common.{sym, ap, ap₂, ◌∙◌, ⊎_elim, arith, mul_comm, zero-mul}
-use Rattle.std.proofs.lemmas.Bool.{cases_Bool, cases_eq, cond-true, cond-false, and_parts, leb-true, eq-eqb, ne_eqb, lt-ltb}
+use Rattle.std.proofs.lemmas.Bool.{and_right, cases_Bool, cases_eq, cond-true, cond-false, and_parts, leb-true, eq-eqb, ne_eqb, lt-ltb}
 use Rattle.bus_set.specs.Sets.{count_below}
 use Rattle.bus_set.proofs.Counts.{count_same, count_le}
 use Rattle.weighting.specs.Sums.{sum_below}
@@ -34,10 +34,6 @@ of_hub_range hub k of =
     let above = leb-true (first_of hub) k p.0 in
     let below = leb-true k (last_of hub) p.1 in
     (omega (arith, first_low hub), omega (arith, last_most hub))
-
-and_false : (a c : Bool) → c ≡ false → (a && c) ≡ false
-and_false true c e = e
-and_false false c e = refl
 
 cond_zero : (t : Bool) (x : ℕ) → x ≡ 0 → cond t x 0 ≡ 0
 cond_zero true x e = e
@@ -82,7 +78,7 @@ module _ (hub : Hub) (v : View) where
   pub elsewhere : (b k : ℕ) → (k ≢ v.hub_bus b) → part b k ≡ 0
   elsewhere b k other =
       cond_zero (of_hub hub k) _
-      (cond-false (v.live b && v.hub_bus b == k) (unit / live_of v k) 0 (and_false (v.live b) (v.hub_bus b == k) (ne_eqb (v.hub_bus b) k (λ e. other (sym e)))))
+      (cond-false (v.live b && v.hub_bus b == k) (unit / live_of v k) 0 (and_right (v.live b) (v.hub_bus b == k) (ne_eqb (v.hub_bus b) k (λ e. other (sym e)))))
 
   by_parts : (b : ℕ) → hub_weight hub v b ≡ sum_below (part b) 156
   by_parts b =
@@ -96,7 +92,7 @@ module _ (hub : Hub) (v : View) where
       in
       sym (sum_pick (part b) k 156 (of_hub_range hub k of).1 (λ j l other. elsewhere b j other) ∙ here))
       (λ (no' : of_hub hub k ≡ false).
-      cond-false (v.live b && of_hub hub k) n 0 (and_false (v.live b) (of_hub hub k) no')
+      cond-false (v.live b && of_hub hub k) n 0 (and_right (v.live b) (of_hub hub k) no')
       ∙ sym (sum_zeros (part b) 156 (λ j l. ⊎_elim
       (λ (same : j ≡ k). cond-false (of_hub hub j) _ 0 (ap (of_hub hub) same ∙ no'))
       (λ (other : j ≡ k → ⊥). elsewhere b j other)

@@ -13,4 +13,5 @@ pub mod HubLaws
 pub mod Marks
 pub mod Members
 pub mod Shares
+pub mod SettlementPoints
 pub mod Weighed

@@ -1,8 +1,7 @@
 -- What a point's buses weigh in a case that someone asks about, and when the question is refused.
-use Rattle.std.specs.Prelude.{◌≡◌, ℕ, Bool, List, ℤ, pos, Some, None, Ok, Err, Option, Result, ◌≢◌}
+use Rattle.std.specs.Prelude.{◌≡◌, ℕ, Bool, ℤ, Some, None, Ok, Err, Option, Result}
 use Rattle.refusals.specs.declared.Refusal.{Refusal}
 use Rattle.refusals.specs.declared.Refusal.TheVariants.{ConstraintOutside, NotPosted, PointOutside}
-use Rattle.bus_set.specs.Sets.{SetOf}
 use Rattle.bounds.specs.Bounds.{up_to}
 use Rattle.hour.specs.Limits.{last_constraint}
 use Rattle.hour.specs.Hour.{Hour, entries, constraint_at}
@@ -10,18 +9,12 @@ use Rattle.hour.specs.Live.{base_live, live_under}
 use Rattle.hour.specs.declared.records.Constraint.{Constraint}
 use Rattle.hour.specs.declared.records.Market.TheVariants.{DayAhead}
 use Rattle.hour.specs.declared.book.Book.{Book}
-use Rattle.weighting.specs.Views.{view_of}
+use Rattle.weighting.specs.Views.{CaseOf, view_of}
+use Rattle.weighting.specs.declared.cases.Case.{Case}
 use Rattle.weighting.specs.Meanings.{Meaning, WeightsOf}
-use Rattle.weighting.specs.Hubs.{hub_number}
-use Rattle.weighting.specs.HubLaws.{hub_meaning}
-use Rattle.weighting.specs.Zones.{zone_meaning}
-use Rattle.weighting.specs.Ties.{tie_meaning}
-use Rattle.weighting.specs.declared.points.Kind.{Kind}
-use Rattle.weighting.specs.declared.points.Kind.TheVariants as kind
+use Rattle.weighting.specs.SettlementPoints.{point_meaning, OfPoint}
 use Rattle.weighting.specs.declared.points.Point.{Point}
 use Rattle.weighting.specs.declared.weights.Weights.{Weights}
-use Rattle.weighting.specs.declared.zones.Zone.{Zone}
-use Rattle.weighting.specs.declared.ties.Tie.{Tie}
 
 abbrev pub when_posted : ℕ → Option Constraint → Result (Option ℕ) Refusal
 when_posted k None = Err NotPosted
@@ -41,11 +34,12 @@ abbrev pub live_in : Hour → Option ℕ → ℕ → Bool
 live_in h None = base_live h DayAhead
 live_in h (Some k) = live_under h k
 
-abbrev pub LiveSetOf : Hour → Result (Option ℕ) Refusal → Result (List ℕ) Refusal → Type 0
-LiveSetOf h (Ok k) (Ok words) = SetOf (live_in h k) words
-LiveSetOf h (Ok k) (Err e) = ⊥
-LiveSetOf h (Err d) (Ok words) = ⊥
-LiveSetOf h (Err d) (Err e) = e ≡ d
+-- the case that is asked about, or its refusal
+abbrev pub CasedIn : Book → Result (Option ℕ) Refusal → Result Case Refusal → Type 0
+CasedIn book (Ok k) (Ok c) = CaseOf book DayAhead (live_in (entries book) k) c
+CasedIn book (Ok k) (Err e) = ⊥
+CasedIn book (Err d) (Ok c) = ⊥
+CasedIn book (Err d) (Err e) = e ≡ d
 
 -- the weights of a weighting in a case, or the case's refusal
 abbrev pub WeighedIn : Meaning → Book → Result (Option ℕ) Refusal → Result Weights Refusal → Type 0
@@ -55,22 +49,6 @@ WeighedIn m book (Ok k) (Err e) = ⊥
 WeighedIn m book (Err d) (Ok w) = ⊥
 WeighedIn m book (Err d) (Err e) = e ≡ d
 
--- of the point that has the number; where none has it, the question is refused
-abbrev pub Asked : {T : Type 0} → (T → ℕ) → (T → Meaning) → ℤ → Book → Option ℤ → Result Weights Refusal → Type 0
-Asked {T} number_of meaning_of z book c r =
-    ((p : T) → z ≡ pos (number_of p) → WeighedIn (meaning_of p) book (case_of (entries book) c) r)
-    × (((p : T) → z ≢ pos (number_of p)) → r ≡ Err PointOutside)
-
-abbrev pub zone_number : Zone → ℕ
-zone_number z = z.number
-
-abbrev pub tie_bus : Tie → ℕ
-tie_bus t = t.bus
-
-abbrev pub AskedOf : Kind → ℤ → Book → Option ℤ → Result Weights Refusal → Type 0
-AskedOf kind.Hub = Asked hub_number hub_meaning
-AskedOf kind.Zone = Asked zone_number (λ z. zone_meaning (zone_number z))
-AskedOf kind.Tie = Asked tie_bus (λ t. tie_meaning (tie_bus t))
-
+-- of the point that has the kind and number; where none has them, the question is refused
 abbrev pub WeighedAt : Book → Point → Option ℤ → Result Weights Refusal → Type 0
-WeighedAt book p c r = AskedOf p.kind p.number book c r
+WeighedAt book p c r = OfPoint (λ s. WeighedIn (point_meaning s) book (case_of (entries book) c) r) (r ≡ Err PointOutside) p

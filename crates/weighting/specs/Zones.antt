@@ -1,20 +1,16 @@
 -- A live bus of a load zone weighs its load.
-use Rattle.std.specs.Prelude.{ℕ, ◌≤◌, Bool, true, false, cond, ◌==◌}
-use Rattle.std.proofs.Common.{ap₂, arith}
+use Rattle.std.specs.Prelude.{ℕ, cond, ◌==◌}
+use Rattle.std.proofs.Common.{ap₂}
 use Rattle.weighting.specs.Views.{View}
 use Rattle.weighting.specs.Meanings.{Meaning}
-use Rattle.weighting.specs.Owns.{Own, own_meaning}
+use Rattle.weighting.specs.Owns.{Own, cond_most, own_meaning}
 
 abbrev pub zone_own : ℕ → View → ℕ → ℕ
 zone_own zone v b = cond (v.zone b == zone) (v.load b) 0
 
-zone_most : (t : Bool) (x : ℕ) → x ≤ 10000 → cond t x 0 ≤ 10000
-zone_most true x h = h
-zone_most false x h = omega arith
-
 pub zone_own_kept : (zone : ℕ) → Own (zone_own zone)
 zone_own_kept zone = record {
-  most = λ v b. zone_most (v.zone b == zone) (v.load b) (v.load_most b);
+  most = λ v b. cond_most (v.zone b == zone) (v.load b) 10000 (v.load_most b);
   same = λ v u b hub area load. ap₂ (λ (z l : ℕ). cond (z == zone) l 0) area load;
 }
 

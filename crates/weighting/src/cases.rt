@@ -1,5 +1,5 @@
 // A case: a book, a market and a set of live buses. Any set will do, not only a base case or one under a constraint.
-ghost use Rattle.std.specs.Prelude.{◌≡◌, ◌≤◌, None, MatchOption};
+ghost use Rattle.std.specs.Prelude.{◌≡◌, ◌≤◌, is_some, None, MatchOption};
 ghost use Rattle.hour.specs.Hour.{entries, constraint_at};
 ghost use Rattle.hour.specs.Live.{base_live, live_under};
 ghost use Rattle.hour.specs.declared.records.Market.TheVariants.{DayAhead};
@@ -32,7 +32,8 @@ impl<'a> Case<'a> {
 
     // The day-ahead case under a posted constraint; none where it is not posted.
     pub fn under(book: &'a Book, constraint: u8) -> Option<Case<'a>>
-        ensures { MatchOption result (constraint_at (entries book.now) constraint ≡ None) (CaseOf book.now DayAhead (live_under (entries book.now) constraint)) }
+        ensures posted { is_some result ≡ is_some (constraint_at (entries book.now) constraint) }
+        ensures case { MatchOption result (constraint_at (entries book.now) constraint ≡ None) (CaseOf book.now DayAhead (live_under (entries book.now) constraint)) }
     {
         let live = book.live_under(constraint)?;
         Some(Case {

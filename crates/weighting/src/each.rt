@@ -1,29 +1,12 @@
-// The weights of all buses from the weight of one, for the weightings of this crate.
-ghost use Rattle.std.specs.Prelude.{◌≡◌, ℕ, ◌<◌, slice_index};
-ghost use Rattle.weighting.specs.Views.{View, view};
-ghost use Rattle.weighting.specs.declared.cases.Case.{Case};
+// The weights of all buses from the weight of one.
+ghost use Rattle.std.specs.Prelude.{ℕ, ◌<◌, slice_index};
 
-use crate::cases::Case;
-
-pub trait BusWeight {
-    // whether what is known of the book belongs to the case
-    ghost fits: { Self → Case → Type 0 };
-
-    ghost own: { Self → View → ℕ → ℕ };
-
-    fn weight(&self, case: &Case, bus: u8) -> u32
-        requires { fits self.now case.now }
-        ensures { result ≡ own self.now (view case.now) bus };
-}
+use std::array;
 
 // One pass over the buses.
-pub fn each<T: BusWeight>(one: &T, case: &Case) -> [u32; 256]
-    requires { T.BusWeight.fits one.now case.now }
-    ensures { (b : ℕ) → b < 256 → slice_index result b ≡ T.BusWeight.own one.now (view case.now) b }
+pub fn each<F: Fn(u8) -> u32>(weight: F) -> [u32; 256]
+    requires { (bus : ℕ) → bus < 256 → F.pre weight bus }
+    ensures { (bus : ℕ) → bus < 256 → F.post weight bus (slice_index result bus) }
 {
-    let mut all = [0u32; 256];
-    for bus in 0..256usize {
-        all[bus] = one.weight(case, bus as u8);
-    }
-    all
+    array::from_fn(|bus| weight(bus as u8))
 }

@@ -1,6 +1,7 @@
 // Hubs: each hub bus with a live bus weighs 840, which its live buses share evenly.
-ghost use Rattle.std.specs.Prelude.{◌≡◌, ℕ, ◌/◌, ◌<◌, ◌&&◌};
-ghost use Rattle.bus_set.specs.Sets.{SetOf, member, count_below};
+ghost use Rattle.std.specs.Prelude.{◌≡◌, ℕ, false, pos, ◌/◌, ◌<◌};
+ghost use Rattle.std.specs.Range.{range_inclusive_start, range_inclusive_end, range_inclusive_exhausted};
+ghost use Rattle.bus_set.specs.Sets.{SetOf};
 ghost use Rattle.hour.specs.Hour.{entries};
 ghost use Rattle.hour.specs.Live.{belongs};
 ghost use Rattle.weighting.specs.Views.{view};
@@ -8,21 +9,22 @@ ghost use Rattle.weighting.specs.Meanings.{WeightsOf};
 ghost use Rattle.weighting.specs.Points.{PointOf};
 ghost use Rattle.weighting.specs.Members.{MembersOf};
 ghost use Rattle.weighting.specs.Shares.{HubShares};
-ghost use Rattle.weighting.specs.Hubs.{unit, hub_number, first_of, last_of, of_hub, hub_weight};
+ghost use Rattle.weighting.specs.Hubs.{unit, hub_number, first_of, last_of, of_hub, live_of, hub_weight};
 ghost use Rattle.weighting.specs.HubLaws.{hub_meaning};
 
 use crate::cases::Case;
-use crate::each::{BusWeight, each};
+use crate::each::each;
 use crate::weightings::Weighting;
 use bus_set::{BusSet, both, count, marked};
 use hour::book::Book;
 use refusals::Refusal;
+use std::ops::RangeInclusive;
 
 // The weight of a hub bus: the least number that 1 to 8 divide.
 const UNIT: u32 = 840;
 
 // The five hubs, and the ERCOT average of the first four.
-#[derive(Clone, Copy)]
+#[derive(Clone, Copy, PartialEq, Eq, Debug)]
 pub enum Hub {
     North,
     South,
@@ -32,11 +34,13 @@ pub enum Hub {
     Average,
 }
 
-impl Hub {
-    // The hub of a number.
-    pub fn numbered(number: i64) -> Result<Hub, Refusal>
-        ensures { PointOf hub_number number result }
-    {
+// The hub of a number.
+impl TryFrom<i64> for Hub {
+    type Error = Refusal;
+
+    ghost try_from_gives = { PointOf hub_number };
+
+    fn try_from(number: i64) -> Result<Hub, Refusal> {
         match number {
             1 => Ok(Hub::North),
             2 => Ok(Hub::South),
@@ -47,30 +51,38 @@ impl Hub {
             _ => Err(Refusal::PointOutside),
         }
     }
+}
 
-    fn first(self) -> u8
-        ensures { result ≡ first_of self }
-    {
-        match self {
+// The number by which a hub is named.
+impl From<Hub> for i64 {
+    ghost from_gives = { λ hub number. number ≡ pos (hub_number hub) };
+
+    fn from(hub: Hub) -> i64 {
+        match hub {
             Hub::North => 1,
-            Hub::South => 76,
-            Hub::Houston => 107,
-            Hub::West => 127,
-            Hub::Panhandle => 144,
-            Hub::Average => 1,
+            Hub::South => 2,
+            Hub::Houston => 3,
+            Hub::West => 4,
+            Hub::Panhandle => 5,
+            Hub::Average => 6,
         }
     }
+}
 
-    fn last(self) -> u8
-        ensures { result ≡ last_of self }
+impl Hub {
+    // The numbers of the hub's hub buses.
+    fn hub_buses(self) -> RangeInclusive<u8>
+        ensures first { range_inclusive_start result ≡ first_of self }
+        ensures last { range_inclusive_end result ≡ last_of self }
+        ensures whole { range_inclusive_exhausted result ≡ false }
     {
         match self {
-            Hub::North => 75,
-            Hub::South => 106,
-            Hub::Houston => 126,
-            Hub::West => 143,
-            Hub::Panhandle => 155,
-            Hub::Average => 143,
+            Hub::North => 1..=75,
+            Hub::South => 76..=106,
+            Hub::Houston => 107..=126,
+            Hub::West => 127..=143,
+            Hub::Panhandle => 144..=155,
+            Hub::Average => 1..=143,
         }
     }
 
@@ -78,7 +90,7 @@ impl Hub {
     pub fn has(self, hub_bus: u8) -> bool
         ensures { result ≡ of_hub self hub_bus }
     {
-        self.first() <= hub_bus && hub_bus <= self.last()
+        self.hub_buses().contains(&hub_bus)
     }
 
     // The shares of the hub's live buses, in 840ths of their hub bus.
@@ -86,30 +98,18 @@ impl Hub {
         ensures weights { WeightsOf (hub_meaning self) (view case.now) result }
         ensures shares { HubShares self (view case.now) result }
     {
-        let sharing = Sharing {
-            hub: self,
-            members: members_of(case.book),
-        };
-        each(&sharing, case)
+        let members = members_of(case.book);
+        each(|bus| self.share(case, &members, bus))
     }
-}
 
-// A hub beside the members of every hub bus, sorted once for all buses.
-#[derive(Clone, Copy)]
-pub struct Sharing {
-    hub: Hub,
-    members: [BusSet; 156],
-}
-
-impl BusWeight for Sharing {
-    ghost fits = { λ s c. MembersOf (entries c.book.now) s.members };
-
-    ghost own = { λ s. hub_weight s.hub };
-
-    fn weight(&self, case: &Case, bus: u8) -> u32 {
+    // What a bus weighs, with the members of every hub bus at hand.
+    fn share(self, case: &Case, members: &[BusSet; 156], bus: u8) -> u32
+        requires { MembersOf (entries case.now.book.now) members.now }
+        ensures { result ≡ hub_weight self (view case.now) bus }
+    {
         let hub_bus = case.hub_bus(bus);
-        if case.is_live(bus) && self.hub.has(hub_bus) {
-            share(live_in(case.live, self.members[hub_bus as usize]))
+        if case.is_live(bus) && self.has(hub_bus) {
+            UNIT / live_buses(case, members, hub_bus)
         } else {
             0
         }
@@ -124,19 +124,13 @@ impl Weighting for Hub {
     }
 }
 
-// What each of a hub bus's live buses weighs.
-fn share(live: u32) -> u32
-    requires { 0 < live }
-    ensures { result ≡ unit / live }
+// How many buses of a hub bus are live in the case.
+fn live_buses(case: &Case, members: &[BusSet; 156], hub_bus: u8) -> u32
+    requires members { MembersOf (entries case.now.book.now) members.now }
+    requires row { hub_bus < 156 }
+    ensures { result ≡ live_of (view case.now) hub_bus }
 {
-    UNIT / live
-}
-
-// How many of the live buses are members.
-fn live_in(live: BusSet, members: BusSet) -> u32
-    ensures { result ≡ count_below (λ b. member live b && member members b) 256 }
-{
-    count(both(live, members))
+    count(both(case.live, members[usize::from(hub_bus)]))
 }
 
 // The members of every hub bus, in one pass over the buses.
@@ -144,11 +138,9 @@ pub fn members_of(book: &Book) -> [BusSet; 156]
     ensures { MembersOf (entries book.now) result }
 {
     let mut all = [[0u64; 4]; 156];
-    for b in 0..256usize {
-        let k = book.bus(b as u8).hub_bus as usize;
-        let row = all[k];
-        let next = marked(row, b as u8, true);
-        all[k] = next;
+    for (bus, record) in book.buses().enumerate() {
+        let k = usize::from(record.hub_bus);
+        all[k] = marked(all[k], bus as u8, true);
     }
     all
 }

@@ -1,9 +1,9 @@
 // Points by kind and number, and what their buses weigh in the day-ahead base case or under a posted constraint.
-ghost use Rattle.std.specs.Prelude.{◌≡◌, Some, None, MatchResult};
+ghost use Rattle.std.specs.Prelude.{◌≡◌};
 ghost use Rattle.hour.specs.Hour.{entries};
 ghost use Rattle.bounds.specs.Bounds.{up_to};
-ghost use Rattle.refusals.specs.declared.Refusal.TheVariants.{ConstraintOutside};
-ghost use Rattle.weighting.specs.Weighed.{case_of, numbered, LiveSetOf, WeighedIn, WeighedAt};
+ghost use Rattle.weighting.specs.SettlementPoints.{PointNamed, point_meaning};
+ghost use Rattle.weighting.specs.Weighed.{case_of, numbered, CasedIn, WeighedAt};
 
 use crate::cases::Case;
 use crate::hubs::Hub;
@@ -11,12 +11,13 @@ use crate::ties::Tie;
 use crate::weightings::Weighting;
 use crate::weights::Weights;
 use crate::zones::Zone;
-use bus_set::BusSet;
+use bounds::up_to;
 use hour::book::Book;
+use hour::limits::LAST_CONSTRAINT;
 use hour::records::Market;
 use refusals::Refusal;
 
-#[derive(Clone, Copy)]
+#[derive(Clone, Copy, PartialEq, Eq, Debug)]
 pub enum Kind {
     Hub,
     Zone,
@@ -24,66 +25,70 @@ pub enum Kind {
 }
 
 // A point as someone names it. Whether it is one is looked at when it is asked about.
-#[derive(Clone, Copy)]
+#[derive(Clone, Copy, PartialEq, Eq, Debug)]
 pub struct Point {
     pub kind: Kind,
     pub number: i64,
 }
 
+// A point that there is, with its weighting.
+#[derive(Clone, Copy, PartialEq, Eq, Debug)]
+pub enum SettlementPoint {
+    Hub(Hub),
+    Zone(Zone),
+    Tie(Tie),
+}
+
+impl TryFrom<Point> for SettlementPoint {
+    type Error = Refusal;
+
+    ghost try_from_gives = { PointNamed };
+
+    fn try_from(point: Point) -> Result<SettlementPoint, Refusal> {
+        match point.kind {
+            Kind::Hub => Hub::try_from(point.number).map(SettlementPoint::Hub),
+            Kind::Zone => Zone::try_from(point.number).map(SettlementPoint::Zone),
+            Kind::Tie => Tie::try_from(point.number).map(SettlementPoint::Tie),
+        }
+    }
+}
+
+impl Weighting for SettlementPoint {
+    ghost meaning = { point_meaning };
+
+    fn weights(&self, case: &Case) -> [u32; 256] {
+        match self {
+            SettlementPoint::Hub(hub) => hub.weights(case),
+            SettlementPoint::Zone(zone) => zone.weights(case),
+            SettlementPoint::Tie(tie) => tie.weights(case),
+        }
+    }
+}
+
 // The weights of a point's buses, in the base case or under a constraint. The point is looked at first, then the
 // constraint's number, then whether it is posted.
+#[tactic(auto, using(crate::proofs::SettlementPoints::of_none, crate::proofs::Weighed::weighed_at))]
 pub fn weigh(book: &Book, point: Point, constraint: Option<i64>) -> Result<Weights, Refusal>
     ensures { WeighedAt book.now point constraint result }
 {
-    match point.kind {
-        Kind::Hub => weigh_in(&Hub::numbered(point.number)?, book, constraint),
-        Kind::Zone => weigh_in(&Zone::numbered(point.number)?, book, constraint),
-        Kind::Tie => weigh_in(&Tie::numbered(point.number)?, book, constraint),
-    }
+    let point = SettlementPoint::try_from(point)?;
+    let case = case(book, constraint)?;
+    Ok(point.weigh(&case))
 }
 
-fn weigh_in<W: Weighting>(
-    weighting: &W,
-    book: &Book,
-    constraint: Option<i64>,
-) -> Result<Weights, Refusal>
-    ensures { WeighedIn (W.Weighting.meaning weighting.now) book.now (case_of (entries book.now) constraint) result }
-{
-    let live = live_set(book, constraint)?;
-    let case = Case {
-        book,
-        market: Market::DayAhead,
-        live,
-    };
-    Ok(weighting.weigh(&case))
-}
-
-// The live buses of the day-ahead base case, or under a posted constraint.
-fn live_set(book: &Book, constraint: Option<i64>) -> Result<BusSet, Refusal>
-    ensures { LiveSetOf (entries book.now) (case_of (entries book.now) constraint) result }
+// The day-ahead base case, or the case under a posted constraint.
+fn case(book: &Book, constraint: Option<i64>) -> Result<Case<'_>, Refusal>
+    ensures { CasedIn book.now (case_of (entries book.now) constraint) result }
 {
     match constraint {
-        None => Ok(book.base_live(Market::DayAhead)),
-        Some(number) => live_under(book, number),
+        None => Ok(Case::base(book, Market::DayAhead)),
+        Some(number) => case_under(book, number),
     }
 }
 
-fn live_under(book: &Book, number: i64) -> Result<BusSet, Refusal>
-    ensures { LiveSetOf (entries book.now) (numbered (entries book.now) (up_to number 31)) result }
+fn case_under(book: &Book, number: i64) -> Result<Case<'_>, Refusal>
+    ensures { CasedIn book.now (numbered (entries book.now) (up_to number 31)) result }
 {
-    let k = constraint_number(number)?;
-    match book.live_under(k) {
-        Some(live) => Ok(live),
-        None => Err(Refusal::NotPosted),
-    }
-}
-
-fn constraint_number(number: i64) -> Result<u8, Refusal>
-    ensures { MatchResult result (λ k. up_to number 31 ≡ Some k) (λ e. (up_to number 31 ≡ None) × (e ≡ ConstraintOutside)) }
-{
-    if number < 0 || number > 31 {
-        Err(Refusal::ConstraintOutside)
-    } else {
-        Ok(number as u8)
-    }
+    let k = up_to(number, LAST_CONSTRAINT, Refusal::ConstraintOutside)? as u8;
+    Case::under(book, k).ok_or(Refusal::NotPosted)
 }

@@ -8,49 +8,37 @@ ghost use Rattle.weighting.specs.Shares.{TieShares};
 ghost use Rattle.weighting.specs.Ties.{tie_own, tie_meaning};
 
 use crate::cases::Case;
-use crate::each::{BusWeight, each};
+use crate::each::each;
 use crate::weightings::Weighting;
 use refusals::Refusal;
 
 // A tie at a bus.
-#[derive(Clone, Copy)]
+#[derive(Clone, Copy, PartialEq, Eq, Debug)]
 pub struct Tie {
     bus: u8,
     ghost within: { bus ≤ 255 },
 }
 
-impl Tie {
-    // The tie at a bus.
-    pub fn numbered(bus: i64) -> Result<Tie, Refusal>
-        ensures { PointOf (λ t. t.bus) bus result }
-    {
-        if bus < 0 || bus > 255 {
-            Err(Refusal::PointOutside)
-        } else {
-            Ok(Tie { bus: bus as u8 })
-        }
-    }
+// The tie at a bus.
+impl TryFrom<i64> for Tie {
+    type Error = Refusal;
 
+    ghost try_from_gives = { PointOf (λ t. t.bus) };
+
+    fn try_from(bus: i64) -> Result<Tie, Refusal> {
+        u8::try_from(bus)
+            .map(|bus| Tie { bus })
+            .map_err(|_| Refusal::PointOutside)
+    }
+}
+
+impl Tie {
     // One for the tie's bus when it is live.
     pub fn mark(self, case: &Case) -> [u32; 256]
         ensures weights { WeightsOf (tie_meaning self.bus) (view case.now) result }
         ensures shares { TieShares self.bus (view case.now) result }
     {
-        each(&self, case)
-    }
-}
-
-impl BusWeight for Tie {
-    ghost fits = { λ t c. Unit {0} };
-
-    ghost own = { λ t. when_live (tie_own t.bus) };
-
-    fn weight(&self, case: &Case, bus: u8) -> u32 {
-        if case.is_live(bus) && bus == self.bus {
-            1
-        } else {
-            0
-        }
+        each(|bus| u32::from(case.is_live(bus) && bus == self.bus))
     }
 }
 

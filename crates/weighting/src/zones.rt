@@ -8,51 +8,44 @@ ghost use Rattle.weighting.specs.Shares.{ZoneShares};
 ghost use Rattle.weighting.specs.Zones.{zone_own, zone_meaning};
 
 use crate::cases::Case;
-use crate::each::{BusWeight, each};
+use crate::each::each;
 use crate::weightings::Weighting;
 use refusals::Refusal;
 
 // Load zone 1 to 16.
-#[derive(Clone, Copy)]
+#[derive(Clone, Copy, PartialEq, Eq, Debug)]
 pub struct Zone {
     number: u8,
     ghost within: { (1 ≤ number) × (number ≤ 16) },
 }
 
-impl Zone {
-    // The zone of a number.
-    pub fn numbered(number: i64) -> Result<Zone, Refusal>
-        ensures { PointOf (λ z. z.number) number result }
-    {
-        if number < 1 || number > 16 {
-            Err(Refusal::PointOutside)
-        } else {
-            Ok(Zone {
-                number: number as u8,
-            })
+// The zone of a number.
+impl TryFrom<i64> for Zone {
+    type Error = Refusal;
+
+    ghost try_from_gives = { PointOf (λ z. z.number) };
+
+    fn try_from(number: i64) -> Result<Zone, Refusal> {
+        match u8::try_from(number) {
+            Ok(number @ 1..=16) => Ok(Zone { number }),
+            _ => Err(Refusal::PointOutside),
         }
     }
+}
 
+impl Zone {
     // The loads of the zone's live buses.
     pub fn loads(self, case: &Case) -> [u32; 256]
         ensures weights { WeightsOf (zone_meaning self.number) (view case.now) result }
         ensures shares { ZoneShares self.number (view case.now) result }
     {
-        each(&self, case)
-    }
-}
-
-impl BusWeight for Zone {
-    ghost fits = { λ z c. Unit {0} };
-
-    ghost own = { λ z. when_live (zone_own z.number) };
-
-    fn weight(&self, case: &Case, bus: u8) -> u32 {
-        if case.is_live(bus) && case.zone(bus) == self.number {
-            case.load(bus) as u32
-        } else {
-            0
-        }
+        each(|bus| {
+            if case.is_live(bus) && case.zone(bus) == self.number {
+                u32::from(case.load(bus))
+            } else {
+                0
+            }
+        })
     }
 }
 

@@ -1,10 +1,7 @@
-use Rattle.std.proofs.Common.{◌<◌, ◌≢◌, length, arith, length-set, get_or-set_other, get_or-set_same, below_more}
+use Rattle.std.proofs.Common.{rules}
+use Rattle.weighting.proofs.FromFn.{made_at}
 use Rattle.weighting.proofs.each.each.Goals as goal
 
-pub loop-bus-preserved : goal.loop-bus-preserved
-loop-bus-preserved g c =
-    let i = c.loop-bus.bus in
-    let lt : i < length c.loop-bus.all = omega (arith, c.loop-bus.invariant.0) in (
-      rw length-set c.loop-bus.invariant.0,
-      below_more _ _ (λ k h. let ne : k ≢ i = omega arith in rw get_or-set_other (c.loop-bus.invariant.1 k h)) (rw get_or-set_same c.weight.ensures),
-    )
+pub returns : goal.returns
+returns g c bus low =
+    made_at _ _ (λ i y. goal.F-post g c.args.weight i y) (λ i y q called. (search rules, search rules)) c.from_fn.result 256 bus 0 c.from_fn.ensures.items low

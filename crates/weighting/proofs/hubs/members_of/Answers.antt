@@ -1,26 +1,33 @@
-use Rattle.std.proofs.Common.{◌≡◌, ℕ, ◌+◌, ◌<◌, true, [], length, get_or, set, sym, refl, ap, ◌∙◌, subst, arith, length-set}
-use Rattle.bus_set.specs.Sets.{marked}
+use Rattle.std.proofs.Common.{◌≡◌, length, refl, ◌∙◌, arith}
+use Rattle.std.proofs.lemmas.Iterator.{YieldsList-from_slice}
+use Rattle.std.proofs.lemmas.Iterator.Consumers.{YieldsList-end, YieldsList-from_enumerate}
+use Rattle.std.proofs.lemmas.List.{length_push}
+use Rattle.std.proofs.lemmas.List.FromFn.{length-enumerate_from}
 use Rattle.hour.specs.Hour.{entries, bus_at}
-use Rattle.hour.specs.declared.records.Bus.{Bus}
-use Rattle.weighting.proofs.Members.{SortedTo, sorted_none, sorted_more, sorted_all, hub_bus_low}
+use Rattle.weighting.proofs.Members.{sorted_none, sorted_next, sorted_all, its_turn}
 use Rattle.weighting.proofs.hubs.members_of.Goals as goal
 
-pub loop-b-init : goal.loop-b-init
-loop-b-init c = (refl, sorted_none (λ i. (bus_at (entries c.args.book.now) i).hub_bus))
+pub loop-bus-init : goal.loop-bus-init
+loop-bus-init c = (refl, sorted_none (λ i. (bus_at (entries c.args.book.now) i).hub_bus))
 
-pub loop-b-preserved : goal.loop-b-preserved
-loop-b-preserved c =
-    let of : ℕ → ℕ = λ i. (bus_at (entries c.args.book.now) i).hub_bus in
-    let b = c.loop-b.b in
-    let all = c.loop-b.all in
-    let new = c.marked-next.result in
-    let own : c.bus-k.result.hub_bus ≡ of b = ap (λ (x : Bus). x.hub_bus) c.bus-k.ensures.value in
-    let row : of b < 156 = subst (λ (n : ℕ). n < 156) own (hub_bus_low c.bus-k.result c.bus-k.ensures.sound) in
-    let is : new ≡ marked (get_or all (of b) []) b true = c.marked-next.ensures.value ∙ ap (λ (n : ℕ). marked (get_or all n []) b true) own in
-    subst (λ (n : ℕ). (length (set all n new) ≡ 156) × SortedTo of (set all n new) (b + 1)) (sym own)
-    (length-set all (of b) new ∙ c.loop-b.invariant.0, sorted_more of all b new c.loop-b.invariant.0 c.loop-b-test.true row c.loop-b.invariant.1 is)
+pub bounds-all-k : goal.bounds-all-k
+bounds-all-k c =
+    let turn = its_turn c.args.book.now _ (cc) (cc) c.loop-bus.yielded _ c.loop-bus.yielded_by _ _ c.in-Some.bus c.in-Some.record c.in-Some.is c.next.ensures.steps in
+    omega (arith, c.from-k.ensures, turn.hub_bus, turn.row)
+
+pub overflow_cast-bus : goal.overflow_cast-bus
+overflow_cast-bus c =
+    let turn = its_turn c.args.book.now _ (cc) (cc) c.loop-bus.yielded _ c.loop-bus.yielded_by _ _ c.in-Some.bus c.in-Some.record c.in-Some.is c.next.ensures.steps in
+    omega (arith, turn.number, turn.low)
+
+pub loop-bus-preserved : goal.loop-bus-preserved
+loop-bus-preserved c =
+    let turn = its_turn c.args.book.now _ (cc) (cc) c.loop-bus.yielded _ c.loop-bus.yielded_by _ _ c.in-Some.bus c.in-Some.record c.in-Some.is c.next.ensures.steps in
+    sorted_next (λ i. (bus_at (entries c.args.book.now) i).hub_bus) c.loop-bus.all (length c.loop-bus.yielded) _ c.from-k.result c.in-Some.bus c.marked.result c.loop-bus.invariant.0
+    turn.low turn.row c.loop-bus.invariant.1 (c.from-k.ensures ∙ turn.hub_bus) turn.number (length_push c.loop-bus.yielded _) c.marked.ensures.value
 
 pub returns : goal.returns
 returns c =
-    let end : c.loop-b.b ≡ 256 = omega arith in
-    sorted_all (λ i. (bus_at (entries c.args.book.now) i).hub_bus) c.loop-b.all c.loop-b.b end c.loop-b.invariant.1
+    let all = YieldsList-end (YieldsList-from_enumerate (YieldsList-from_slice c.args.book.now.buses cc) cc) c.loop-bus.yielded _ c.loop-bus.yielded_by _ _ c.in-None.is c.next.ensures.steps in
+    let end : length c.loop-bus.yielded ≡ 256 = all.1 ∙ length-enumerate_from 0 c.args.book.now.buses ∙ c.args.book.now.size in
+    sorted_all (λ i. (bus_at (entries c.args.book.now) i).hub_bus) c.loop-bus.all (length c.loop-bus.yielded) end c.loop-bus.invariant.1
