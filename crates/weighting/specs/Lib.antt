@@ -13,3 +13,4 @@ pub mod Marks
 pub mod Members
 pub mod Shares
 pub mod Weighed
+pub mod KindNames
