@@ -4,15 +4,16 @@ use Rattle.std.specs.Str.{bytes_eq}
 use Rattle.std.proofs.lemmas.Bool.{cond-true, cond-false}
 use Rattle.script.proofs.Texts.{same}
 use Rattle.std.specs.List.{AllByRecursion as All}
+use Rattle.hour.specs.MarketNames.{market_name, market_of}
 use Rattle.hour.specs.declared.calls.Call.{Call}
 use Rattle.hour.specs.declared.calls.Call.TheVariants.{Place, Status, Load, Lambda, Post, Strike, Outage, EnterRun, DropRun}
 use Rattle.hour.specs.declared.records.Market.{Market}
 use Rattle.hour.specs.declared.records.Market.TheVariants.{DayAhead, RealTime}
 use Rattle.script.specs.declared.commands.Command.TheVariants as command-of
 use Rattle.script.specs.Commands.{command}
-use Rattle.script.specs.Readings.{market_of, choice_of}
+use Rattle.script.specs.Readings.{choice_of}
 use Rattle.script.specs.Words.{words}
-use Rattle.script.specs.Written.{market_name, words_of, written, Fits64}
+use Rattle.script.specs.Written.{words_of, written, Fits64}
 use Rattle.script.proofs.Spaces.{Word, spelt, words_spaced}
 use Rattle.script.proofs.Integers.{number_signed, word_signed}
 

@@ -1,5 +1,6 @@
 pub mod Commands
 pub mod Numbers
+pub mod NumberLaws
 pub mod Readings
 pub mod Verbs
 pub mod Words

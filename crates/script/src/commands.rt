@@ -31,17 +31,17 @@ pub enum NotACall {
 fn place(mut args: Words<'_>) -> Option<Command>
     ensures value { result ≡ arguments Verb.Place (left args.entry) }
 {
-    let bus = args.number()?;
-    let hub_bus = args.number()?;
-    let zone = args.number()?;
+    let bus = args.read()?;
+    let hub_bus = args.read()?;
+    let zone = args.read()?;
     args.end(Command::Call(Call::Place { bus, hub_bus, zone }))
 }
 
 fn status(mut args: Words<'_>) -> Option<Command>
     ensures value { result ≡ arguments Verb.Status (left args.entry) }
 {
-    let market = args.market()?;
-    let bus = args.number()?;
+    let market = args.read()?;
+    let bus = args.read()?;
     let live = args.choice("live", "dead")?;
     args.end(Command::Call(Call::Status { bus, market, live }))
 }
@@ -49,24 +49,24 @@ fn status(mut args: Words<'_>) -> Option<Command>
 fn load(mut args: Words<'_>) -> Option<Command>
     ensures value { result ≡ arguments Verb.Load (left args.entry) }
 {
-    let market = args.market()?;
-    let bus = args.number()?;
-    let load = args.number()?;
+    let market = args.read()?;
+    let bus = args.read()?;
+    let load = args.read()?;
     args.end(Command::Call(Call::Load { bus, market, load }))
 }
 
 fn lambda(mut args: Words<'_>) -> Option<Command>
     ensures value { result ≡ arguments Verb.Lambda (left args.entry) }
 {
-    let lambda = args.number()?;
+    let lambda = args.read()?;
     args.end(Command::Call(Call::Lambda { lambda }))
 }
 
 fn post(mut args: Words<'_>) -> Option<Command>
     ensures value { result ≡ arguments Verb.Post (left args.entry) }
 {
-    let constraint = args.number()?;
-    let shadow_price = args.number()?;
+    let constraint = args.read()?;
+    let shadow_price = args.read()?;
     args.end(Command::Call(Call::Post {
         constraint,
         shadow_price,
@@ -76,15 +76,15 @@ fn post(mut args: Words<'_>) -> Option<Command>
 fn strike(mut args: Words<'_>) -> Option<Command>
     ensures value { result ≡ arguments Verb.Strike (left args.entry) }
 {
-    let constraint = args.number()?;
+    let constraint = args.read()?;
     args.end(Command::Call(Call::Strike { constraint }))
 }
 
 fn outage(mut args: Words<'_>) -> Option<Command>
     ensures value { result ≡ arguments Verb.Outage (left args.entry) }
 {
-    let constraint = args.number()?;
-    let bus = args.number()?;
+    let constraint = args.read()?;
+    let bus = args.read()?;
     let out = args.choice("on", "off")?;
     args.end(Command::Call(Call::Outage {
         constraint,
@@ -96,10 +96,10 @@ fn outage(mut args: Words<'_>) -> Option<Command>
 fn enter_run(mut args: Words<'_>) -> Option<Command>
     ensures value { result ≡ arguments Verb.Run (left args.entry) }
 {
-    let run = args.number()?;
-    let seconds = args.number()?;
-    let reserve_adder = args.number()?;
-    let reliability_adder = args.number()?;
+    let run = args.read()?;
+    let seconds = args.read()?;
+    let reserve_adder = args.read()?;
+    let reliability_adder = args.read()?;
     args.end(Command::Call(Call::EnterRun {
         run,
         seconds,
@@ -111,16 +111,16 @@ fn enter_run(mut args: Words<'_>) -> Option<Command>
 fn drop_run(mut args: Words<'_>) -> Option<Command>
     ensures value { result ≡ arguments Verb.Drop (left args.entry) }
 {
-    let run = args.number()?;
+    let run = args.read()?;
     args.end(Command::Call(Call::DropRun { run }))
 }
 
 fn weights(mut args: Words<'_>) -> Option<Command>
     ensures value { result ≡ arguments Verb.Weights (left args.entry) }
 {
-    let kind = args.kind()?;
-    let number = args.number()?;
-    let constraint = args.last_number()?;
+    let kind = args.read()?;
+    let number = args.read()?;
+    let constraint = args.last()?;
     Some(Command::Weights(Point { kind, number }, constraint))
 }
 

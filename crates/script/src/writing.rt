@@ -2,21 +2,11 @@
 ghost use Rattle.std.specs.Prelude.{◌≡◌, IfOk, if◌then◌else◌, Some, Ok, string_bytes};
 ghost use Rattle.script.specs.Commands.{command};
 ghost use Rattle.script.specs.Words.{words};
-ghost use Rattle.script.specs.Written.{market_name, written};
+ghost use Rattle.script.specs.Written.{written};
 
 use crate::commands::Command;
 use hour::calls::Call;
-use hour::records::Market;
 use std::alloc::{AllocError, Global};
-
-fn market_name(market: Market) -> &'static str
-    ensures value { result.now ≡ market_name market }
-{
-    match market {
-        Market::DayAhead => "day-ahead",
-        Market::RealTime => "real-time",
-    }
-}
 
 // One of two words, by a flag.
 fn chosen(flag: bool, yes: &'static str, no: &'static str) -> &'static str
@@ -33,12 +23,10 @@ pub fn write(heap: Global, call: &Call) -> Result<String, AllocError>
     match *call {
         Call::Place { bus, hub_bus, zone } => format!(in heap; "place {bus} {hub_bus} {zone}"),
         Call::Status { bus, market, live } => {
-            let market = market_name(market);
             let live = chosen(live, "live", "dead");
             format!(in heap; "status {market} {bus} {live}")
         }
         Call::Load { bus, market, load } => {
-            let market = market_name(market);
             format!(in heap; "load {market} {bus} {load}")
         }
         Call::Lambda { lambda } => format!(in heap; "lambda {lambda}"),
