@@ -1,5 +1,6 @@
 -- The command that the words of a line make.
-use Rattle.std.specs.Prelude.{ℕ, Bool, false, cond, List, [], ◌∷◌, Some, None, Ok, Err, codes, Option, Result, ◌==◌}
+use Rattle.std.specs.Prelude.{ℕ, Bool, false, cond, List, [], ◌∷◌, Some, None, Ok, Err, codes, Option, Result, option_map, ◌==◌}
+use Rattle.std.specs.Option.{ok_or}
 use Rattle.hour.specs.MarketNames.{market_of}
 use Rattle.hour.specs.declared.calls.Call.TheVariants as call
 use Rattle.weighting.specs.KindNames.{kind_of}
@@ -42,8 +43,7 @@ arguments verb.Help = end Help
 
 -- and the verb's usage where they do not
 abbrev pub fitted : Verb → Option Command → Result (Option Command) NotACall
-fitted v None = Err (Usage v)
-fitted v (Some c) = Ok (Some c)
+fitted v c = ok_or (option_map Some c) (Usage v)
 
 abbrev pub by_verb : Option Verb → List (List ℕ) → Result (Option Command) NotACall
 by_verb None ws = Err Unknown

@@ -1,5 +1,5 @@
 -- Words that are read one after another.
-use Rattle.std.specs.Prelude.{ℕ, Bool, true, false, cond, List, [], ◌∷◌, Some, None, codes, Option}
+use Rattle.std.specs.Prelude.{ℕ, Bool, true, false, cond, List, [], ◌∷◌, Some, None, Option}
 use Rattle.std.specs.Str.{bytes_eq}
 use Rattle.script.specs.declared.words.Words.{Words}
 use Rattle.script.specs.Words.{words}

@@ -20,7 +20,7 @@ pub enum Command {
 }
 
 // Why a line is no command.
-#[derive(Clone, Copy)]
+#[derive(Clone, Copy, Debug, PartialEq, Eq)]
 pub enum NotACall {
     // No verb has the name of the first word.
     Unknown,
@@ -28,139 +28,75 @@ pub enum NotACall {
     Usage(Verb),
 }
 
-fn place(mut args: Words<'_>) -> Option<Command>
-    ensures value { result ≡ arguments Verb.Place (left args.entry) }
-{
-    let bus = args.read()?;
-    let hub_bus = args.read()?;
-    let zone = args.read()?;
-    args.end(Command::Call(Call::Place { bus, hub_bus, zone }))
-}
-
-fn status(mut args: Words<'_>) -> Option<Command>
-    ensures value { result ≡ arguments Verb.Status (left args.entry) }
-{
-    let market = args.read()?;
-    let bus = args.read()?;
-    let live = args.choice("live", "dead")?;
-    args.end(Command::Call(Call::Status { bus, market, live }))
-}
-
-fn load(mut args: Words<'_>) -> Option<Command>
-    ensures value { result ≡ arguments Verb.Load (left args.entry) }
-{
-    let market = args.read()?;
-    let bus = args.read()?;
-    let load = args.read()?;
-    args.end(Command::Call(Call::Load { bus, market, load }))
-}
-
-fn lambda(mut args: Words<'_>) -> Option<Command>
-    ensures value { result ≡ arguments Verb.Lambda (left args.entry) }
-{
-    let lambda = args.read()?;
-    args.end(Command::Call(Call::Lambda { lambda }))
-}
-
-fn post(mut args: Words<'_>) -> Option<Command>
-    ensures value { result ≡ arguments Verb.Post (left args.entry) }
-{
-    let constraint = args.read()?;
-    let shadow_price = args.read()?;
-    args.end(Command::Call(Call::Post {
-        constraint,
-        shadow_price,
-    }))
-}
-
-fn strike(mut args: Words<'_>) -> Option<Command>
-    ensures value { result ≡ arguments Verb.Strike (left args.entry) }
-{
-    let constraint = args.read()?;
-    args.end(Command::Call(Call::Strike { constraint }))
-}
-
-fn outage(mut args: Words<'_>) -> Option<Command>
-    ensures value { result ≡ arguments Verb.Outage (left args.entry) }
-{
-    let constraint = args.read()?;
-    let bus = args.read()?;
-    let out = args.choice("on", "off")?;
-    args.end(Command::Call(Call::Outage {
-        constraint,
-        bus,
-        out,
-    }))
-}
-
-fn enter_run(mut args: Words<'_>) -> Option<Command>
-    ensures value { result ≡ arguments Verb.Run (left args.entry) }
-{
-    let run = args.read()?;
-    let seconds = args.read()?;
-    let reserve_adder = args.read()?;
-    let reliability_adder = args.read()?;
-    args.end(Command::Call(Call::EnterRun {
-        run,
-        seconds,
-        reserve_adder,
-        reliability_adder,
-    }))
-}
-
-fn drop_run(mut args: Words<'_>) -> Option<Command>
-    ensures value { result ≡ arguments Verb.Drop (left args.entry) }
-{
-    let run = args.read()?;
-    args.end(Command::Call(Call::DropRun { run }))
-}
-
-fn weights(mut args: Words<'_>) -> Option<Command>
-    ensures value { result ≡ arguments Verb.Weights (left args.entry) }
-{
-    let kind = args.read()?;
-    let number = args.read()?;
-    let constraint = args.last()?;
-    Some(Command::Weights(Point { kind, number }, constraint))
-}
-
 // The command of a verb and the words after it, where they fit.
-fn arguments(verb: Verb, args: Words<'_>) -> Option<Command>
+fn arguments(verb: Verb, mut args: Words<'_>) -> Option<Command>
     ensures value { result ≡ arguments verb (left args.entry) }
 {
-    match verb {
-        Verb::Place => place(args),
-        Verb::Status => status(args),
-        Verb::Load => load(args),
-        Verb::Lambda => lambda(args),
-        Verb::Post => post(args),
-        Verb::Strike => strike(args),
-        Verb::Outage => outage(args),
-        Verb::Run => enter_run(args),
-        Verb::Drop => drop_run(args),
-        Verb::Weights => weights(args),
-        Verb::Show => args.end(Command::Show),
-        Verb::Help => args.end(Command::Help),
-    }
+    let call = match verb {
+        Verb::Place => Call::Place {
+            bus: args.read()?,
+            hub_bus: args.read()?,
+            zone: args.read()?,
+        },
+        Verb::Status => Call::Status {
+            market: args.read()?,
+            bus: args.read()?,
+            live: args.choice("live", "dead")?,
+        },
+        Verb::Load => Call::Load {
+            market: args.read()?,
+            bus: args.read()?,
+            load: args.read()?,
+        },
+        Verb::Lambda => Call::Lambda {
+            lambda: args.read()?,
+        },
+        Verb::Post => Call::Post {
+            constraint: args.read()?,
+            shadow_price: args.read()?,
+        },
+        Verb::Strike => Call::Strike {
+            constraint: args.read()?,
+        },
+        Verb::Outage => Call::Outage {
+            constraint: args.read()?,
+            bus: args.read()?,
+            out: args.choice("on", "off")?,
+        },
+        Verb::Run => Call::EnterRun {
+            run: args.read()?,
+            seconds: args.read()?,
+            reserve_adder: args.read()?,
+            reliability_adder: args.read()?,
+        },
+        Verb::Drop => Call::DropRun { run: args.read()? },
+        Verb::Weights => {
+            let point = Point {
+                kind: args.read()?,
+                number: args.read()?,
+            };
+            return Some(Command::Weights(point, args.last()?));
+        }
+        Verb::Show => return args.end(Command::Show),
+        Verb::Help => return args.end(Command::Help),
+    };
+    args.end(Command::Call(call))
 }
 
 // The command that words make, or `None` where there are none or they are a remark.
-fn of_words(mut line: Words<'_>) -> Result<Option<Command>, NotACall>
-    ensures value { result ≡ command (left line.entry) }
+fn of_words(mut words: Words<'_>) -> Result<Option<Command>, NotACall>
+    ensures value { result ≡ command (left words.entry) }
 {
-    let Some(first) = line.next() else {
+    let Some(first) = words.next() else {
         return Ok(None);
     };
     if first.starts_with('#') {
         return Ok(None);
     }
-    let Some(verb) = Verb::named(first) else {
-        return Err(NotACall::Unknown);
-    };
-    match arguments(verb, line) {
-        Some(command) => Ok(Some(command)),
-        None => Err(NotACall::Usage(verb)),
-    }
+    let verb = first.parse::<Verb>()?;
+    arguments(verb, words)
+        .map(Some)
+        .ok_or(NotACall::Usage(verb))
 }
 
 // The command that a line is, or `None` where the line is passed over. A line that writes a call is that call.

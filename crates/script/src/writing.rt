@@ -26,9 +26,7 @@ pub fn write(heap: Global, call: &Call) -> Result<String, AllocError>
             let live = chosen(live, "live", "dead");
             format!(in heap; "status {market} {bus} {live}")
         }
-        Call::Load { bus, market, load } => {
-            format!(in heap; "load {market} {bus} {load}")
-        }
+        Call::Load { bus, market, load } => { format!(in heap; "load {market} {bus} {load}") }
         Call::Lambda { lambda } => format!(in heap; "lambda {lambda}"),
         Call::Post {
             constraint,
