@@ -1,4 +1,5 @@
 pub mod Commands
+pub mod Faults
 pub mod Numbers
 pub mod NumberLaws
 pub mod Readings

@@ -1,6 +1,7 @@
 // What a line of a script says.
 ghost use Rattle.std.specs.Prelude.{◌≡◌, Some, Ok};
 ghost use Rattle.script.specs.Commands.{arguments, command};
+ghost use Rattle.script.specs.Faults.{fault_text};
 ghost use Rattle.script.specs.Readings.{left};
 ghost use Rattle.script.specs.Words.{words};
 ghost use Rattle.script.specs.Written.{written, Fits64};
@@ -8,6 +9,8 @@ ghost use Rattle.script.specs.Written.{written, Fits64};
 use crate::verbs::Verb;
 use crate::words::Words;
 use hour::calls::Call;
+use std::error::Error;
+use std::fmt;
 use weighting::points::Point;
 
 #[derive(Clone, Copy)]
@@ -27,6 +30,19 @@ pub enum NotACall {
     // The words after the verb are not those that it takes.
     Usage(Verb),
 }
+
+impl fmt::Display for NotACall {
+    ghost output = { λ fault. Some (fault_text fault) };
+
+    fn fmt<W: fmt::Write>(&self, f: &mut fmt::Formatter<W>) -> fmt::Result {
+        match self {
+            NotACall::Unknown => f.write_str("no such call; help lists them"),
+            NotACall::Usage(verb) => write!(f, "not a call; write {}", verb.usage()),
+        }
+    }
+}
+
+impl Error for NotACall {}
 
 // The command of a verb and the words after it, where they fit.
 fn arguments(verb: Verb, mut args: Words<'_>) -> Option<Command>
