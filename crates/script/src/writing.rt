@@ -22,6 +22,7 @@ impl fmt::Display for Written<'_> {
 }
 
 // Writes the call's line, which is read back as the call.
+#[tactic(auto, using(crate::proofs::Backs::back))]
 pub fn write<W: fmt::Write>(call: &Call, f: &mut fmt::Formatter<W>) -> fmt::Result
     ensures made { WritesOnOk W.write_str_gives f.old result (written call.now) f.new }
     ensures back { command (words (written call.now)) ≡ Ok (Some (Command.Call call.now)) }
