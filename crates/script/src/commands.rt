@@ -116,6 +116,7 @@ fn of_words(mut words: Words<'_>) -> Result<Option<Command>, NotACall>
 }
 
 // The command that a line is, or `None` where the line is passed over. A line that writes a call is that call.
+#[tactic(auto, using(crate::proofs::Backs::reads_back))]
 pub fn read(line: &str) -> Result<Option<Command>, NotACall>
     ensures value { result ≡ command (words line.now) }
     ensures back { (c : Call) → Fits64 c → line.now ≡ written c → result ≡ Ok (Some (Command.Call c)) }
