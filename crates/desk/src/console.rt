@@ -43,14 +43,8 @@ fn print_reply(rt: &HostRuntime, book: &mut Book, number: u64, line: &str) -> io
             print!(rt; "{summary}")
         }
         Reply::Helped => print_help(rt),
-        Reply::Answered(_, _) => {
-            let text = reply.text(rt.alloc())?;
-            println!(rt; "{text}")
-        }
-        Reply::Misread(_) => {
-            let text = reply.text(rt.alloc())?;
-            println!(rt; "line {number}: {text}")
-        }
+        Reply::Answered(_, _) => println!(rt; "{reply}"),
+        Reply::Misread(fault) => println!(rt; "line {number}: {fault}"),
     }
 }
 

@@ -3,8 +3,8 @@ ghost use Rattle.std.specs.Prelude.{◌≡◌, ◌<◌, ◌≤◌};
 ghost use Rattle.desk.specs.Factors.{place, factored, table_after, answered};
 ghost use Rattle.desk.specs.FactorLaws.{Reads};
 
-use hour::limits::{LAST_BUS, LAST_CONSTRAINT};
 use bounds::{is_within, up_to};
+use hour::limits::{LAST_BUS, LAST_CONSTRAINT};
 use refusals::Refusal;
 use script::factors::Factor;
 
