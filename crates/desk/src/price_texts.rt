@@ -1,7 +1,7 @@
 // Prices as a dispatcher reads them.
 ghost use Rattle.std.specs.Prelude.{◌≡◌, Some};
 ghost use Rattle.desk.specs.PriceLaws.{Tells};
-ghost use Rattle.desk.specs.PriceTexts.{origin_words, price_text};
+ghost use Rattle.desk.specs.PriceTexts.{dollars, origin_words, price_text};
 
 use pricing::origins::Origin;
 use std::fmt;
@@ -29,12 +29,22 @@ impl fmt::Display for PriceText {
 
     fn fmt<W: fmt::Write>(&self, f: &mut fmt::Formatter<W>) -> fmt::Result {
         let sign = if self.cents < 0 { "-" } else { "" };
-        let cents = self.cents.unsigned_abs();
-        let whole = cents / 100;
-        let dimes = cents % 100 / 10;
-        let pennies = cents % 10;
+        let dollars = Dollars(self.cents.unsigned_abs());
         let origin = origin_words(self.origin);
-        write!(f, "{sign}${whole}.{dimes}{pennies}, {origin}")
+        write!(f, "{sign}{dollars}, {origin}")
+    }
+}
+
+// Cents as dollars, with two digits of cents.
+#[derive(Drop)]
+struct Dollars(u64);
+
+impl fmt::Display for Dollars {
+    ghost output = { λ cents. Some (dollars cents.0) };
+
+    #[tactic(auto, using(crate::proofs::Cents::two_digits))]
+    fn fmt<W: fmt::Write>(&self, f: &mut fmt::Formatter<W>) -> fmt::Result {
+        write!(f, "${}.{:02}", self.0 / 100, self.0 % 100)
     }
 }
 
