@@ -7,7 +7,7 @@ ghost use Rattle.script.specs.Verbs.{all_verbs, usage, verb_of};
 use crate::commands::NotACall;
 use std::str::FromStr;
 
-// One case for each word that a line may begin with.
+// One case for each word that a line may begin with. Its name and usage are matches and no table, so that no case can be left out.
 #[derive(Clone, Copy, Debug, PartialEq, Eq)]
 pub enum Verb {
     Place,
