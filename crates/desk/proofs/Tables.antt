@@ -2,11 +2,11 @@
 use Rattle.std.proofs.Common.{◌≡◌, ℕ, ◌<◌, ◌≤◌, true, List, length, set, ℤ, pos, negsuc, Some, sym, ap, ◌∙◌, inl, ⊎_elim, arith}
 use Rattle.std.proofs.lemmas.Int.{ints}
 use Rattle.std.proofs.lemmas.Bool.{leb-true, cases_lt}
+use Rattle.std.proofs.lemmas.Grind.{common_steps}
 use Rattle.posting.specs.Grids.{Within}
 use Rattle.posting.specs.Limits.{buses, most_table_number}
 use Rattle.posting.specs.Meanings.{table_grid}
 use Rattle.posting.proofs.TableLaws.{table_laws}
-use Rattle.hour.proofs.Tables.{up_to_is, up_to_low}
 use Rattle.bounds.specs.Bounds.{up_to, within}
 use Rattle.hour.specs.Limits.{last_bus, last_constraint}
 use Rattle.script.specs.declared.factors.Factor.{Factor}
@@ -21,14 +21,15 @@ is_within (negsuc n) e = let h = leb-true _ most_table_number e in record { low 
 same_pos : (a b : ℕ) → pos a ≡ pos b → a ≡ b
 same_pos a b e = cc
 
-pub only_there : (t : List ℤ) (f : Factor) (b k : ℕ) → length t ≡ 8192 → up_to f.bus last_bus ≡ Some b → up_to f.column last_constraint ≡ Some k
-    → within f.number most_table_number ≡ true → OnlyThere t (set t (place b k) f.number) f
-only_there t f b k l is-bus is-column small =
+up_to_is : (z : ℤ) (m n : ℕ) → up_to z m ≡ Some n → z ≡ pos n
+up_to_is (pos k) m n h = grind (arith, common_steps)
+up_to_is (negsuc k) m n h = grind (arith, common_steps)
+
+pub only_there : (t : List ℤ) (f : Factor) (b k : ℕ) → length t ≡ 8192 → up_to f.bus last_bus ≡ Some b → b ≤ last_bus
+    → up_to f.column last_constraint ≡ Some k → k ≤ last_constraint → within f.number most_table_number ≡ true → OnlyThere t (set t (place b k) f.number) f
+only_there t f b k l is-bus low-bus is-column low-column small =
     let p = up_to_is f.bus last_bus b is-bus in
     let q = up_to_is f.column last_constraint k is-column in
-    let low-bus = up_to_low f.bus last_bus b is-bus in
-    let low_column = up_to_low f.column last_constraint k is-column in
-    let there : place b k < length t = omega arith in
     let laws = table_laws t in
     record {
       here = λ bus column e d.
@@ -36,7 +37,7 @@ only_there t f b k l is-bus is-column small =
           let j : column ≡ k = same_pos column k (sym d ∙ q) in
           ap (λ (x : ℕ). (table_grid (set t (place b k) f.number)).at x column) i
           ∙ ap (λ (x : ℕ). (table_grid (set t (place b k) f.number)).at b x) j
-          ∙ laws.what_is_written_is_read b k f.number (omega arith) (omega arith) there (is_within f.number small);
+          ∙ laws.what_is_written_is_read b k f.number (omega arith) (omega arith) (omega arith) (is_within f.number small);
       others = λ bus column apart.
           ⊎_elim
           (λ (h : bus < buses). laws.other_entries_stay bus column b k f.number h (omega arith)
