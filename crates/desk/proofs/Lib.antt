@@ -1,2 +1,3 @@
 mod Amounts
+mod Cents
 mod Tables

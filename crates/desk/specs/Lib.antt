@@ -5,4 +5,3 @@ pub mod PriceTexts
 pub mod Prices
 pub mod Replies
 pub mod Sessions
-pub mod Weights

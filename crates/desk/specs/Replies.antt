@@ -4,20 +4,14 @@ use Rattle.refusals.specs.Numbers.{number}
 use Rattle.refusals.specs.Words.{meaning}
 use Rattle.refusals.specs.declared.Refusal.{Refusal}
 use Rattle.hour.specs.declared.calls.Call.{Call}
-use Rattle.script.specs.Verbs.{usage}
+use Rattle.script.specs.Faults.{fault_text}
 use Rattle.script.specs.Written.{written}
-use Rattle.script.specs.declared.commands.NotACall.{NotACall}
-use Rattle.script.specs.declared.commands.NotACall.TheVariants.{Unknown, Usage}
 use Rattle.desk.specs.declared.replies.Reply.{Reply}
 use Rattle.desk.specs.declared.replies.Reply.TheVariants.{Passed, Answered, Weighed, Shown, Helped, Misread}
 
 abbrev pub answer_text : Call → Result (Unit {0}) Refusal → List ℕ
 answer_text call (Ok _) = written call ++ codes ": granted"
 answer_text call (Err e) = written call ++ (codes ": refused " ++ (decimal (number e) ++ (codes ", " ++ meaning e)))
-
-abbrev pub fault_text : NotACall → List ℕ
-fault_text Unknown = codes "no such call; help lists them"
-fault_text (Usage verb) = codes "not a call; write " ++ usage verb
 
 abbrev pub reply_text : Reply → List ℕ
 reply_text Passed = []

@@ -16,9 +16,8 @@ pub fn work_input(rt: &HostRuntime) -> io::Result<()> {
     }
     let heap = rt.alloc();
     let mut book = Book::fresh();
-    let mut number: u64 = 0;
-    for line in BufReader::new(heap, rt.stdin())?.split(heap, b'\n') {
-        number = number.saturating_add(1);
+    let lines = BufReader::new(heap, rt.stdin())?.split(heap, b'\n');
+    for (number, line) in (1u64..).zip(lines) {
         let bytes = line?;
         let text = String::from_utf8_lossy(heap, bytes.as_slice())?;
         print_reply(rt, &mut book, number, text.as_str())?;
@@ -30,35 +29,25 @@ fn print_reply(rt: &HostRuntime, book: &mut Book, number: u64, line: &str) -> io
     let reply = work(book, line);
     match reply {
         Reply::Passed => Ok(()),
-        Reply::Weighed(point, constraint) => {
-            let weighing = Weighing {
+        Reply::Weighed(point, constraint) => print!(rt;
+            "{}",
+            Weighing {
                 book,
                 point,
                 constraint,
-            };
-            print!(rt; "{weighing}")
-        }
-        Reply::Shown => {
-            let summary = Summary { book };
-            print!(rt; "{summary}")
-        }
+            }
+        ),
+        Reply::Shown => print!(rt; "{}", Summary { book }),
         Reply::Helped => print_help(rt),
-        Reply::Answered(_, _) => {
-            let text = reply.text(rt.alloc())?;
-            println!(rt; "{text}")
-        }
-        Reply::Misread(_) => {
-            let text = reply.text(rt.alloc())?;
-            println!(rt; "line {number}: {text}")
-        }
+        Reply::Answered(_, _) => println!(rt; "{reply}"),
+        Reply::Misread(fault) => println!(rt; "line {number}: {fault}"),
     }
 }
 
 fn print_help(rt: &HostRuntime) -> io::Result<()> {
     println!(rt; "One call a line, on the book of one operating hour:")?;
     for verb in Verb::all() {
-        let usage = verb.usage();
-        println!(rt; "  {usage}")?;
+        println!(rt; "  {}", verb.usage())?;
     }
     println!(rt; "Empty lines and lines that begin with # are passed over.")
 }

@@ -1,24 +1,51 @@
 // Prices as a dispatcher reads them.
-ghost use Rattle.std.specs.Prelude.{◌≡◌, IfOk, string_bytes};
+ghost use Rattle.std.specs.Prelude.{◌≡◌, Some};
 ghost use Rattle.desk.specs.PriceLaws.{Tells};
-ghost use Rattle.desk.specs.PriceTexts.{sign, dollars, origin_words, price_text};
+ghost use Rattle.desk.specs.PriceTexts.{dollars, origin_words, price_text};
 
 use pricing::origins::Origin;
-use std::alloc::{AllocError, Global};
+use std::fmt;
 
-fn sign(cents: i64) -> &'static str
-    ensures { result.now ≡ sign cents }
-{
-    if cents < 0 { "-" } else { "" }
+// A price in dollars and cents, and its origin.
+#[derive(Clone, Copy)]
+pub struct PriceText {
+    pub cents: i64,
+    pub origin: Origin,
 }
 
-fn dollars(heap: Global, cents: u64) -> Result<String, AllocError>
-    ensures { IfOk result (λ s. string_bytes s ≡ dollars cents) }
-{
-    let whole = cents / 100;
-    let dimes = cents % 100 / 10;
-    let pennies = cents % 10;
-    format!(in heap; "${whole}.{dimes}{pennies}")
+impl PriceText {
+    // No two prices are written alike.
+    #[tactic(auto, using(crate::proofs::Amounts::tells))]
+    pub fn of(cents: i64, origin: Origin) -> PriceText
+        ensures made { result ≡ record { cents = cents; origin = origin } }
+        ensures tells { Tells cents }
+    {
+        PriceText { cents, origin }
+    }
+}
+
+impl fmt::Display for PriceText {
+    ghost output = { λ price. Some (price_text price.cents price.origin) };
+
+    fn fmt<W: fmt::Write>(&self, f: &mut fmt::Formatter<W>) -> fmt::Result {
+        let sign = if self.cents < 0 { "-" } else { "" };
+        let dollars = Dollars(self.cents.unsigned_abs());
+        let origin = origin_words(self.origin);
+        write!(f, "{sign}{dollars}, {origin}")
+    }
+}
+
+// Cents as dollars, with two digits of cents.
+#[derive(Drop)]
+struct Dollars(u64);
+
+impl fmt::Display for Dollars {
+    ghost output = { λ cents. Some (dollars cents.0) };
+
+    #[tactic(auto, using(crate::proofs::Cents::two_digits))]
+    fn fmt<W: fmt::Write>(&self, f: &mut fmt::Formatter<W>) -> fmt::Result {
+        write!(f, "${}.{:02}", self.0 / 100, self.0 % 100)
+    }
 }
 
 // Where a price comes from.
@@ -30,15 +57,4 @@ fn origin_words(origin: Origin) -> &'static str
         Origin::Average => "ERCOT average",
         Origin::Nothing => "no live weight",
     }
-}
-
-// Dollars and cents, and the origin. No two prices are written alike.
-pub fn price_text(heap: Global, cents: i64, origin: Origin) -> Result<String, AllocError>
-    ensures value { IfOk result (λ s. string_bytes s ≡ price_text cents origin) }
-    ensures tells { Tells cents }
-{
-    let sign = sign(cents);
-    let dollars = dollars(heap, cents.unsigned_abs())?;
-    let origin = origin_words(origin);
-    format!(in heap; "{sign}{dollars}, {origin}")
 }

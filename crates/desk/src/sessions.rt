@@ -10,7 +10,7 @@ ghost use Rattle.desk.specs.Sessions.{hour_after, reply_to};
 
 use crate::replies::Reply;
 use hour::book::Book;
-use script::commands::{Command, NotACall, read};
+use script::commands::{Command, read};
 
 // Works one line. Only a granted call changes the book, and the line that a call is written as does that call.
 pub fn work(book: &mut Book, line: &str) -> Reply
@@ -18,23 +18,12 @@ pub fn work(book: &mut Book, line: &str) -> Reply
     ensures reply { result ≡ reply_to (entries book.old) (command (words line.now)) }
     ensures written { (call : Call) → Fits64 call → line.now ≡ written call → entries book.new ≡ after (entries book.old) call }
 {
-    let said = read(line);
-    obey(book, said)
-}
-
-fn obey(book: &mut Book, said: Result<Option<Command>, NotACall>) -> Reply
-    ensures hour { entries book.new ≡ hour_after (entries book.old) said }
-    ensures reply { result ≡ reply_to (entries book.old) said }
-{
-    match said {
+    match read(line) {
         Err(fault) => Reply::Misread(fault),
         Ok(None) => Reply::Passed,
         Ok(Some(Command::Weights(point, constraint))) => Reply::Weighed(point, constraint),
         Ok(Some(Command::Show)) => Reply::Shown,
         Ok(Some(Command::Help)) => Reply::Helped,
-        Ok(Some(Command::Call(call))) => {
-            let answer = book.apply(&call);
-            Reply::Answered(call, answer)
-        }
+        Ok(Some(Command::Call(call))) => Reply::Answered(call, book.apply(&call)),
     }
 }

@@ -5,3 +5,4 @@ pub mod Steps
 pub mod Replays
 pub mod Live
 pub mod Laws
+pub mod MarketNames

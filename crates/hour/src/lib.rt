@@ -4,4 +4,5 @@
 pub mod book;
 pub mod calls;
 pub mod limits;
+pub mod market_names;
 pub mod records;

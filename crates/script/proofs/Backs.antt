@@ -2,17 +2,18 @@
 use Rattle.std.proofs.Common.{◌≡◌, ℕ, Bool, true, false, cond, List, Some, Ok, codes, sym, refl, ap, ◌∙◌, subst}
 use Rattle.std.specs.Str.{bytes_eq}
 use Rattle.std.proofs.lemmas.Bool.{cond-true, cond-false}
-use Rattle.script.proofs.Texts.{same}
+use Rattle.std.proofs.lemmas.Slice.Eq.{bytes_eq-Decides}
 use Rattle.std.specs.List.{AllByRecursion as All}
+use Rattle.hour.specs.MarketNames.{market_name, market_of}
 use Rattle.hour.specs.declared.calls.Call.{Call}
 use Rattle.hour.specs.declared.calls.Call.TheVariants.{Place, Status, Load, Lambda, Post, Strike, Outage, EnterRun, DropRun}
 use Rattle.hour.specs.declared.records.Market.{Market}
 use Rattle.hour.specs.declared.records.Market.TheVariants.{DayAhead, RealTime}
 use Rattle.script.specs.declared.commands.Command.TheVariants as command-of
 use Rattle.script.specs.Commands.{command}
-use Rattle.script.specs.Readings.{market_of, choice_of}
+use Rattle.script.specs.Readings.{choice_of}
 use Rattle.script.specs.Words.{words}
-use Rattle.script.specs.Written.{market_name, words_of, written, Fits64}
+use Rattle.script.specs.Written.{words_of, written, Fits64}
 use Rattle.script.proofs.Spaces.{Word, spelt, words_spaced}
 use Rattle.script.proofs.Integers.{number_signed, word_signed}
 
@@ -21,8 +22,8 @@ market_back DayAhead = refl
 market_back RealTime = refl
 
 flag_back : (t f : List ℕ) → bytes_eq f t ≡ false → (b : Bool) → choice_of t f (cond b t f) ≡ Some b
-flag_back t f d true = cond-true _ _ _ (same t t refl)
-flag_back t f d false = cond-false _ _ _ d ∙ cond-true _ _ _ (same f f refl)
+flag_back t f d true = cond-true _ _ _ ((bytes_eq-Decides t t).1 refl)
+flag_back t f d false = cond-false _ _ _ d ∙ cond-true _ _ _ ((bytes_eq-Decides f f).1 refl)
 
 commanded : (c : Call) → Fits64 c → command (words_of c) ≡ Ok (Some (command-of.Call c))
 commanded (Place bus hub zone) (f, (g, (h, _))) = simp number_signed

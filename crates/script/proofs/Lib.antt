@@ -3,4 +3,3 @@ mod Cuts
 mod Integers
 mod Lines
 mod Spaces
-mod Texts

@@ -1,6 +1,9 @@
 -- The command that the words of a line make.
-use Rattle.std.specs.Prelude.{ℕ, Bool, false, cond, List, [], ◌∷◌, Some, None, Ok, Err, codes, Option, Result, ◌==◌}
+use Rattle.std.specs.Prelude.{ℕ, Bool, false, cond, List, [], ◌∷◌, Some, None, Ok, Err, codes, Option, Result, option_map, ◌==◌}
+use Rattle.std.specs.Option.{ok_or}
+use Rattle.hour.specs.MarketNames.{market_of}
 use Rattle.hour.specs.declared.calls.Call.TheVariants as call
+use Rattle.weighting.specs.KindNames.{kind_of}
 use Rattle.script.specs.declared.commands.Command.{Command}
 use Rattle.script.specs.declared.commands.Command.TheVariants.{Call, Weights, Show, Help}
 use Rattle.script.specs.declared.commands.NotACall.{NotACall}
@@ -8,7 +11,7 @@ use Rattle.script.specs.declared.commands.NotACall.TheVariants.{Unknown, Usage}
 use Rattle.script.specs.declared.verbs.Verb.{Verb}
 use Rattle.script.specs.declared.verbs.Verb.TheVariants as verb
 use Rattle.script.specs.Numbers.{number_of}
-use Rattle.script.specs.Readings.{first, last, others, market_of, kind_of, choice_of, end}
+use Rattle.script.specs.Readings.{first, last, others, choice_of, end}
 use Rattle.script.specs.Verbs.{verb_of}
 
 abbrev pub chain : {X : Type 0} → Option X → (X → Option Command) → Option Command
@@ -40,8 +43,7 @@ arguments verb.Help = end Help
 
 -- and the verb's usage where they do not
 abbrev pub fitted : Verb → Option Command → Result (Option Command) NotACall
-fitted v None = Err (Usage v)
-fitted v (Some c) = Ok (Some c)
+fitted v c = ok_or (option_map Some c) (Usage v)
 
 abbrev pub by_verb : Option Verb → List (List ℕ) → Result (Option Command) NotACall
 by_verb None ws = Err Unknown

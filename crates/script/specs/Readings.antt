@@ -1,10 +1,6 @@
 -- Words that are read one after another.
-use Rattle.std.specs.Prelude.{ℕ, Bool, true, false, cond, List, [], ◌∷◌, Some, None, codes, Option}
+use Rattle.std.specs.Prelude.{ℕ, Bool, true, false, cond, List, [], ◌∷◌, Some, None, Option}
 use Rattle.std.specs.Str.{bytes_eq}
-use Rattle.hour.specs.declared.records.Market.{Market}
-use Rattle.hour.specs.declared.records.Market.TheVariants.{DayAhead, RealTime}
-use Rattle.weighting.specs.declared.points.Kind.{Kind}
-use Rattle.weighting.specs.declared.points.Kind.TheVariants.{Hub, Zone, Tie}
 use Rattle.script.specs.declared.words.Words.{Words}
 use Rattle.script.specs.Words.{words}
 
@@ -21,12 +17,6 @@ first read (w ∷ ws) = read w
 abbrev pub others : List (List ℕ) → List (List ℕ)
 others [] = []
 others (w ∷ ws) = ws
-
-abbrev pub market_of : List ℕ → Option Market
-market_of w = cond (bytes_eq w (codes "day-ahead")) (Some DayAhead) (cond (bytes_eq w (codes "real-time")) (Some RealTime) None)
-
-abbrev pub kind_of : List ℕ → Option Kind
-kind_of w = cond (bytes_eq w (codes "hub")) (Some Hub) (cond (bytes_eq w (codes "zone")) (Some Zone) (cond (bytes_eq w (codes "tie")) (Some Tie) None))
 
 abbrev pub some : {X : Type 0} → Option X → Option (Option X)
 some None = None

@@ -3,14 +3,9 @@ use Rattle.std.specs.Prelude.{ℕ, cond, List, [], ◌∷◌, ◌++◌, ℤ, cod
 use Rattle.std.specs.Int.{w64}
 use Rattle.std.specs.Fmt.{signed_decimal}
 use Rattle.std.specs.List.{AllByRecursion}
+use Rattle.hour.specs.MarketNames.{market_name}
 use Rattle.hour.specs.declared.calls.Call.{Call}
 use Rattle.hour.specs.declared.calls.Call.TheVariants.{Place, Status, Load, Lambda, Post, Strike, Outage, EnterRun, DropRun}
-use Rattle.hour.specs.declared.records.Market.{Market}
-use Rattle.hour.specs.declared.records.Market.TheVariants.{DayAhead, RealTime}
-
-abbrev pub market_name : Market → List ℕ
-market_name DayAhead = codes "day-ahead"
-market_name RealTime = codes "real-time"
 
 abbrev pub words_of : Call → List (List ℕ)
 words_of (Place bus hub zone) = codes "place" ∷ signed_decimal bus ∷ signed_decimal hub ∷ signed_decimal zone ∷ []

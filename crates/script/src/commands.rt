@@ -1,6 +1,7 @@
 // What a line of a script says.
 ghost use Rattle.std.specs.Prelude.{◌≡◌, Some, Ok};
 ghost use Rattle.script.specs.Commands.{arguments, command};
+ghost use Rattle.script.specs.Faults.{fault_text};
 ghost use Rattle.script.specs.Readings.{left};
 ghost use Rattle.script.specs.Words.{words};
 ghost use Rattle.script.specs.Written.{written, Fits64};
@@ -8,6 +9,8 @@ ghost use Rattle.script.specs.Written.{written, Fits64};
 use crate::verbs::Verb;
 use crate::words::Words;
 use hour::calls::Call;
+use std::error::Error;
+use std::fmt;
 use weighting::points::Point;
 
 #[derive(Clone, Copy)]
@@ -20,7 +23,7 @@ pub enum Command {
 }
 
 // Why a line is no command.
-#[derive(Clone, Copy)]
+#[derive(Clone, Copy, Debug, PartialEq, Eq)]
 pub enum NotACall {
     // No verb has the name of the first word.
     Unknown,
@@ -28,142 +31,92 @@ pub enum NotACall {
     Usage(Verb),
 }
 
-fn place(mut args: Words<'_>) -> Option<Command>
-    ensures value { result ≡ arguments Verb.Place (left args.entry) }
-{
-    let bus = args.number()?;
-    let hub_bus = args.number()?;
-    let zone = args.number()?;
-    args.end(Command::Call(Call::Place { bus, hub_bus, zone }))
-}
+impl fmt::Display for NotACall {
+    ghost output = { λ fault. Some (fault_text fault) };
 
-fn status(mut args: Words<'_>) -> Option<Command>
-    ensures value { result ≡ arguments Verb.Status (left args.entry) }
-{
-    let market = args.market()?;
-    let bus = args.number()?;
-    let live = args.choice("live", "dead")?;
-    args.end(Command::Call(Call::Status { bus, market, live }))
-}
-
-fn load(mut args: Words<'_>) -> Option<Command>
-    ensures value { result ≡ arguments Verb.Load (left args.entry) }
-{
-    let market = args.market()?;
-    let bus = args.number()?;
-    let load = args.number()?;
-    args.end(Command::Call(Call::Load { bus, market, load }))
-}
-
-fn lambda(mut args: Words<'_>) -> Option<Command>
-    ensures value { result ≡ arguments Verb.Lambda (left args.entry) }
-{
-    let lambda = args.number()?;
-    args.end(Command::Call(Call::Lambda { lambda }))
-}
-
-fn post(mut args: Words<'_>) -> Option<Command>
-    ensures value { result ≡ arguments Verb.Post (left args.entry) }
-{
-    let constraint = args.number()?;
-    let shadow_price = args.number()?;
-    args.end(Command::Call(Call::Post {
-        constraint,
-        shadow_price,
-    }))
-}
-
-fn strike(mut args: Words<'_>) -> Option<Command>
-    ensures value { result ≡ arguments Verb.Strike (left args.entry) }
-{
-    let constraint = args.number()?;
-    args.end(Command::Call(Call::Strike { constraint }))
-}
-
-fn outage(mut args: Words<'_>) -> Option<Command>
-    ensures value { result ≡ arguments Verb.Outage (left args.entry) }
-{
-    let constraint = args.number()?;
-    let bus = args.number()?;
-    let out = args.choice("on", "off")?;
-    args.end(Command::Call(Call::Outage {
-        constraint,
-        bus,
-        out,
-    }))
-}
-
-fn enter_run(mut args: Words<'_>) -> Option<Command>
-    ensures value { result ≡ arguments Verb.Run (left args.entry) }
-{
-    let run = args.number()?;
-    let seconds = args.number()?;
-    let reserve_adder = args.number()?;
-    let reliability_adder = args.number()?;
-    args.end(Command::Call(Call::EnterRun {
-        run,
-        seconds,
-        reserve_adder,
-        reliability_adder,
-    }))
-}
-
-fn drop_run(mut args: Words<'_>) -> Option<Command>
-    ensures value { result ≡ arguments Verb.Drop (left args.entry) }
-{
-    let run = args.number()?;
-    args.end(Command::Call(Call::DropRun { run }))
-}
-
-fn weights(mut args: Words<'_>) -> Option<Command>
-    ensures value { result ≡ arguments Verb.Weights (left args.entry) }
-{
-    let kind = args.kind()?;
-    let number = args.number()?;
-    let constraint = args.last_number()?;
-    Some(Command::Weights(Point { kind, number }, constraint))
-}
-
-// The command of a verb and the words after it, where they fit.
-fn arguments(verb: Verb, args: Words<'_>) -> Option<Command>
-    ensures value { result ≡ arguments verb (left args.entry) }
-{
-    match verb {
-        Verb::Place => place(args),
-        Verb::Status => status(args),
-        Verb::Load => load(args),
-        Verb::Lambda => lambda(args),
-        Verb::Post => post(args),
-        Verb::Strike => strike(args),
-        Verb::Outage => outage(args),
-        Verb::Run => enter_run(args),
-        Verb::Drop => drop_run(args),
-        Verb::Weights => weights(args),
-        Verb::Show => args.end(Command::Show),
-        Verb::Help => args.end(Command::Help),
+    fn fmt<W: fmt::Write>(&self, f: &mut fmt::Formatter<W>) -> fmt::Result {
+        match self {
+            NotACall::Unknown => f.write_str("no such call; help lists them"),
+            NotACall::Usage(verb) => write!(f, "not a call; write {}", verb.usage()),
+        }
     }
 }
 
-// The command that words make, or `None` where there are none or they are a remark.
-fn of_words(mut line: Words<'_>) -> Result<Option<Command>, NotACall>
-    ensures value { result ≡ command (left line.entry) }
+impl Error for NotACall {}
+
+// The command of a verb and the words after it, where they fit.
+fn arguments(verb: Verb, mut args: Words<'_>) -> Option<Command>
+    ensures value { result ≡ arguments verb (left args.entry) }
 {
-    let Some(first) = line.next() else {
+    let call = match verb {
+        Verb::Place => Call::Place {
+            bus: args.read()?,
+            hub_bus: args.read()?,
+            zone: args.read()?,
+        },
+        Verb::Status => Call::Status {
+            market: args.read()?,
+            bus: args.read()?,
+            live: args.choice("live", "dead")?,
+        },
+        Verb::Load => Call::Load {
+            market: args.read()?,
+            bus: args.read()?,
+            load: args.read()?,
+        },
+        Verb::Lambda => Call::Lambda {
+            lambda: args.read()?,
+        },
+        Verb::Post => Call::Post {
+            constraint: args.read()?,
+            shadow_price: args.read()?,
+        },
+        Verb::Strike => Call::Strike {
+            constraint: args.read()?,
+        },
+        Verb::Outage => Call::Outage {
+            constraint: args.read()?,
+            bus: args.read()?,
+            out: args.choice("on", "off")?,
+        },
+        Verb::Run => Call::EnterRun {
+            run: args.read()?,
+            seconds: args.read()?,
+            reserve_adder: args.read()?,
+            reliability_adder: args.read()?,
+        },
+        Verb::Drop => Call::DropRun { run: args.read()? },
+        Verb::Weights => {
+            let point = Point {
+                kind: args.read()?,
+                number: args.read()?,
+            };
+            return Some(Command::Weights(point, args.last()?));
+        }
+        Verb::Show => return args.end(Command::Show),
+        Verb::Help => return args.end(Command::Help),
+    };
+    args.end(Command::Call(call))
+}
+
+// The command that words make, or `None` where there are none or they are a remark.
+fn of_words(mut words: Words<'_>) -> Result<Option<Command>, NotACall>
+    ensures value { result ≡ command (left words.entry) }
+{
+    let Some(first) = words.next() else {
         return Ok(None);
     };
     if first.starts_with('#') {
         return Ok(None);
     }
-    let Some(verb) = Verb::named(first) else {
-        return Err(NotACall::Unknown);
-    };
-    match arguments(verb, line) {
-        Some(command) => Ok(Some(command)),
-        None => Err(NotACall::Usage(verb)),
-    }
+    let verb = first.parse::<Verb>()?;
+    arguments(verb, words)
+        .map(Some)
+        .ok_or(NotACall::Usage(verb))
 }
 
 // The command that a line is, or `None` where the line is passed over. A line that writes a call is that call.
+#[tactic(auto, using(crate::proofs::Backs::reads_back))]
 pub fn read(line: &str) -> Result<Option<Command>, NotACall>
     ensures value { result ≡ command (words line.now) }
     ensures back { (c : Call) → Fits64 c → line.now ≡ written c → result ≡ Ok (Some (Command.Call c)) }

@@ -1,9 +1,14 @@
 // The first words of a script's lines.
 ghost use Rattle.std.specs.Prelude.{◌≡◌, ℕ, slice_index_or};
+ghost use Rattle.std.specs.Option.{ok_or};
+ghost use Rattle.script.specs.declared.commands.NotACall.TheVariants.{Unknown};
 ghost use Rattle.script.specs.Verbs.{all_verbs, usage, verb_of};
 
-// One case for each word that a line may begin with.
-#[derive(Clone, Copy)]
+use crate::commands::NotACall;
+use std::str::FromStr;
+
+// One case for each word that a line may begin with. Its name and usage are matches and no table, so that no case can be left out.
+#[derive(Clone, Copy, Debug, PartialEq, Eq)]
 pub enum Verb {
     Place,
     Status,
@@ -41,27 +46,6 @@ impl Verb {
         ]
     }
 
-    // The verb that is written so.
-    pub(crate) fn named(word: &str) -> Option<Verb>
-        ensures value { result ≡ verb_of word.now }
-    {
-        match word {
-            "place" => Some(Verb::Place),
-            "status" => Some(Verb::Status),
-            "load" => Some(Verb::Load),
-            "lambda" => Some(Verb::Lambda),
-            "post" => Some(Verb::Post),
-            "strike" => Some(Verb::Strike),
-            "outage" => Some(Verb::Outage),
-            "run" => Some(Verb::Run),
-            "drop" => Some(Verb::Drop),
-            "weights" => Some(Verb::Weights),
-            "show" => Some(Verb::Show),
-            "help" => Some(Verb::Help),
-            _ => None,
-        }
-    }
-
     // How a line with the verb is written, for a person: capitals stand for a number.
     pub fn usage(self) -> &'static str
         ensures value { result.now ≡ usage self }
@@ -79,6 +63,31 @@ impl Verb {
             Verb::Weights => "weights hub|zone|tie NUMBER [CONSTRAINT]",
             Verb::Show => "show",
             Verb::Help => "help",
+        }
+    }
+}
+
+// The verb that a word names.
+impl FromStr for Verb {
+    type Err = NotACall;
+
+    ghost from_str_gives = { λ word r. r ≡ ok_or (verb_of word) Unknown };
+
+    fn from_str(word: &str) -> Result<Verb, NotACall> {
+        match word {
+            "place" => Ok(Verb::Place),
+            "status" => Ok(Verb::Status),
+            "load" => Ok(Verb::Load),
+            "lambda" => Ok(Verb::Lambda),
+            "post" => Ok(Verb::Post),
+            "strike" => Ok(Verb::Strike),
+            "outage" => Ok(Verb::Outage),
+            "run" => Ok(Verb::Run),
+            "drop" => Ok(Verb::Drop),
+            "weights" => Ok(Verb::Weights),
+            "show" => Ok(Verb::Show),
+            "help" => Ok(Verb::Help),
+            _ => Err(NotACall::Unknown),
         }
     }
 }

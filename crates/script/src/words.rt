@@ -1,10 +1,16 @@
 // The words of a line, from left to right.
-ghost use Rattle.std.specs.Prelude.{◌≡◌, [], ◌∷◌, MatchOption};
+ghost use Rattle.std.specs.Prelude.{◌≡◌, ℕ, List, Option, Result, [], ◌∷◌, MatchOption};
+ghost use Rattle.std.specs.Iterator.{YieldsFirstRef, item_count};
+ghost use Rattle.std.specs.Result.{result_ok};
+ghost use Rattle.hour.specs.MarketNames.{market_of};
+ghost use Rattle.weighting.specs.KindNames.{kind_of};
 ghost use Rattle.script.specs.Numbers.{number_of};
-ghost use Rattle.script.specs.Readings.{left, first, last, others, market_of, kind_of, choice_of, end};
+ghost use Rattle.script.specs.Readings.{left, first, last, others, choice_of, end};
 ghost use Rattle.script.specs.Words.{words};
+ghost use Rattle.script.specs.NumberLaws.{parsed};
 
 use hour::records::Market;
+use std::str::FromStr;
 use weighting::points::Kind;
 
 // The first word of a line, and what follows it.
@@ -25,17 +31,50 @@ fn cut(line: &str) -> Option<(&str, &str)>
     }
 }
 
-// A word as a number.
-fn number_of(word: &str) -> Option<i64>
-    ensures value { result ≡ number_of word.now }
-{
-    word.parse::<i64>().ok()
+// What a word of a script may be read as.
+pub trait Word: FromStr {
+    ghost of_word: { List ℕ → Option Self };
+
+    // Reading goes by `of_word` alone.
+    ghost reads: { (word : List ℕ) (r : Result Self Self.Err) → Self.from_str_gives word r → result_ok r ≡ of_word word };
+}
+
+impl Word for i64 {
+    ghost of_word = { number_of };
+
+    ghost reads = { λ word r h. parsed word r h.0 };
+}
+
+impl Word for Market {
+    ghost of_word = { market_of };
+
+    ghost reads = { λ _ _ h. h };
+}
+
+impl Word for Kind {
+    ghost of_word = { kind_of };
+
+    ghost reads = { λ _ _ h. h };
 }
 
 // What is left of a line.
 #[derive(Drop)]
 pub struct Words<'a> {
     rest: &'a str,
+}
+
+impl<'a> Iterator for Words<'a> {
+    type Item = &'a str;
+
+    ghost next_gives = { YieldsFirstRef left };
+
+    ghost remaining = { item_count left };
+
+    fn next(&mut self) -> Option<&'a str> {
+        let (word, rest) = cut(self.rest)?;
+        self.rest = rest;
+        Some(word)
+    }
 }
 
 impl<'a> Words<'a> {
@@ -46,47 +85,14 @@ impl<'a> Words<'a> {
         Words { rest: line }
     }
 
-    // The next word; the cursor moves past it, as it does in each reading below.
-    pub fn next(&mut self) -> Option<&'a str>
-        ensures cases { MatchOption result ((left self.old ≡ []) × (left self.new ≡ [])) (λ w. left self.old ≡ w.now ∷ left self.new) }
-    {
-        let (word, rest) = cut(self.rest)?;
-        self.rest = rest;
-        Some(word)
-    }
-
-    // The next word as a number.
-    pub fn number(&mut self) -> Option<i64>
-        ensures value { result ≡ first number_of (left self.old) }
+    // The next word, read; the cursor moves past it, as it does in each reading below.
+    pub fn read<T: Word>(&mut self) -> Option<T>
+    where
+        T::Err: Drop,
+        ensures value { result ≡ first T.of_word (left self.old) }
         ensures after { left self.new ≡ others (left self.old) }
     {
-        let word = self.next()?;
-        number_of(word)
-    }
-
-    // The next word as a market.
-    pub fn market(&mut self) -> Option<Market>
-        ensures value { result ≡ first market_of (left self.old) }
-        ensures after { left self.new ≡ others (left self.old) }
-    {
-        match self.next()? {
-            "day-ahead" => Some(Market::DayAhead),
-            "real-time" => Some(Market::RealTime),
-            _ => None,
-        }
-    }
-
-    // The next word as a kind of point.
-    pub fn kind(&mut self) -> Option<Kind>
-        ensures value { result ≡ first kind_of (left self.old) }
-        ensures after { left self.new ≡ others (left self.old) }
-    {
-        match self.next()? {
-            "hub" => Some(Kind::Hub),
-            "zone" => Some(Kind::Zone),
-            "tie" => Some(Kind::Tie),
-            _ => None,
-        }
+        self.next()?.parse().ok()
     }
 
     // The next word as a flag: true at `yes`, false at `no`.
@@ -97,34 +103,28 @@ impl<'a> Words<'a> {
         let word = self.next()?;
         if word == yes {
             Some(true)
-        } else if word == no {
-            Some(false)
         } else {
-            None
+            (word == no).then_some(false)
         }
     }
 
-    // The last word as a number, where one is left.
-    pub fn last_number(mut self) -> Option<Option<i64>>
-        ensures value { result ≡ last number_of (left self.entry) }
+    // The last word, read, where one is left.
+    pub fn last<T: Word>(mut self) -> Option<Option<T>>
+    where
+        T::Err: Drop,
+        ensures value { result ≡ last T.of_word (left self.entry) }
     {
-        let Some(word) = self.next() else {
-            return Some(None);
-        };
-        if self.next().is_some() {
-            return None;
+        match (self.next(), self.next()) {
+            (None, _) => Some(None),
+            (Some(word), None) => word.parse().ok().map(Some),
+            (Some(_), Some(_)) => None,
         }
-        let number = number_of(word)?;
-        Some(Some(number))
     }
 
     // The value, where no word is left.
     pub fn end<T: Drop>(mut self, value: T) -> Option<T>
         ensures value { result ≡ end value (left self.entry) }
     {
-        match self.next() {
-            None => Some(value),
-            Some(_) => None,
-        }
+        self.next().is_none().then_some(value)
     }
 }

@@ -1,66 +1,59 @@
 // Calls as lines of a script.
-ghost use Rattle.std.specs.Prelude.{◌≡◌, IfOk, if◌then◌else◌, Some, Ok, string_bytes};
+ghost use Rattle.std.specs.Prelude.{◌≡◌, Some, Ok};
+ghost use Rattle.std.specs.Fmt.{WritesOnOk};
 ghost use Rattle.script.specs.Commands.{command};
 ghost use Rattle.script.specs.Words.{words};
-ghost use Rattle.script.specs.Written.{market_name, written};
+ghost use Rattle.script.specs.Written.{written};
 
 use crate::commands::Command;
 use hour::calls::Call;
-use hour::records::Market;
-use std::alloc::{AllocError, Global};
+use std::fmt;
 
-fn market_name(market: Market) -> &'static str
-    ensures value { result.now ≡ market_name market }
-{
-    match market {
-        Market::DayAhead => "day-ahead",
-        Market::RealTime => "real-time",
+// A call as its line.
+#[derive(Clone, Copy)]
+pub struct Written<'a>(pub &'a Call);
+
+impl fmt::Display for Written<'_> {
+    ghost output = { λ line. Some (written line.0.now) };
+
+    fn fmt<W: fmt::Write>(&self, f: &mut fmt::Formatter<W>) -> fmt::Result {
+        write(self.0, f)
     }
 }
 
-// One of two words, by a flag.
-fn chosen(flag: bool, yes: &'static str, no: &'static str) -> &'static str
-    ensures value { result.now ≡ (if flag then yes.now else no.now) }
-{
-    if flag { yes } else { no }
-}
-
-// The call's line, which is read back as the call.
-pub fn write(heap: Global, call: &Call) -> Result<String, AllocError>
-    ensures made { IfOk result (λ s. string_bytes s ≡ written call.now) }
+// Writes the call's line, which is read back as the call.
+#[tactic(auto, using(crate::proofs::Backs::back))]
+pub fn write<W: fmt::Write>(call: &Call, f: &mut fmt::Formatter<W>) -> fmt::Result
+    ensures made { WritesOnOk W.write_str_gives f.old result (written call.now) f.new }
     ensures back { command (words (written call.now)) ≡ Ok (Some (Command.Call call.now)) }
 {
     match *call {
-        Call::Place { bus, hub_bus, zone } => format!(in heap; "place {bus} {hub_bus} {zone}"),
+        Call::Place { bus, hub_bus, zone } => write!(f, "place {bus} {hub_bus} {zone}"),
         Call::Status { bus, market, live } => {
-            let market = market_name(market);
-            let live = chosen(live, "live", "dead");
-            format!(in heap; "status {market} {bus} {live}")
+            let live = if live { "live" } else { "dead" };
+            write!(f, "status {market} {bus} {live}")
         }
-        Call::Load { bus, market, load } => {
-            let market = market_name(market);
-            format!(in heap; "load {market} {bus} {load}")
-        }
-        Call::Lambda { lambda } => format!(in heap; "lambda {lambda}"),
+        Call::Load { bus, market, load } => write!(f, "load {market} {bus} {load}"),
+        Call::Lambda { lambda } => write!(f, "lambda {lambda}"),
         Call::Post {
             constraint,
             shadow_price,
-        } => format!(in heap; "post {constraint} {shadow_price}"),
-        Call::Strike { constraint } => format!(in heap; "strike {constraint}"),
+        } => write!(f, "post {constraint} {shadow_price}"),
+        Call::Strike { constraint } => write!(f, "strike {constraint}"),
         Call::Outage {
             constraint,
             bus,
             out,
         } => {
-            let out = chosen(out, "on", "off");
-            format!(in heap; "outage {constraint} {bus} {out}")
+            let out = if out { "on" } else { "off" };
+            write!(f, "outage {constraint} {bus} {out}")
         }
         Call::EnterRun {
             run,
             seconds,
             reserve_adder,
             reliability_adder,
-        } => format!(in heap; "run {run} {seconds} {reserve_adder} {reliability_adder}"),
-        Call::DropRun { run } => format!(in heap; "drop {run}"),
+        } => write!(f, "run {run} {seconds} {reserve_adder} {reliability_adder}"),
+        Call::DropRun { run } => write!(f, "drop {run}"),
     }
 }

@@ -15,3 +15,4 @@ pub mod Members
 pub mod Shares
 pub mod SettlementPoints
 pub mod Weighed
+pub mod KindNames

@@ -4,6 +4,7 @@
 pub mod cases;
 mod each;
 pub mod hubs;
+pub mod kind_names;
 pub mod points;
 pub mod ties;
 pub mod under;

@@ -1,10 +1,8 @@
 use Rattle.std.proofs.Common.{rules}
-use Rattle.desk.proofs.Tables.{reads_after}
+use Rattle.desk.proofs.Tables.{only_there}
 use Rattle.desk.proofs.factors.set_factor.Goals as goal
 
-pub returns : goal.returns
-returns c = record {
-  answer = c.enter.ensures.answer;
-  table = c.enter.ensures.table;
-  reads = reads_after _ _ _ _ (search rules) c.enter.ensures.answer c.enter.ensures.table;
-}
+pub returns-clause-reads : goal.returns-clause-reads
+returns-clause-reads c =
+    let h = only_there c.args.factors.now c.args.factor c.in_ok-bus.bus c.in_ok-column.column (search rules) (search rules) (search rules) (search rules) (search rules) (search rules) in
+    search rules

@@ -1,5 +1,6 @@
-use Rattle.script.proofs.Lines.{unknown}
+use Rattle.std.proofs.Common.{rules}
+use Rattle.script.proofs.Lines.{looked_up}
 use Rattle.script.proofs.commands.of_words.Goals as goal
 
-pub returns-in_default-named : goal.returns-in_default-named
-returns-in_default-named c = record { value = unknown _ _ _ c.in-Some.ensures.cases c.if-starts_with.ensures.cases c.in_default-named.ensures.value }
+pub returns : goal.returns
+returns c = let e = looked_up _ _ _ c.in-Some.ensures.steps c.if-starts_with.ensures.cases in search rules
