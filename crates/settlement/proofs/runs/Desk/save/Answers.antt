@@ -2,7 +2,7 @@ use Rattle.std.proofs.Common.{◌≡◌, ℕ, ◌≤◌, List, ◌++◌, length,
 use Rattle.std.proofs.lemmas.List.{take-take, take-append-le, take_all}
 use Rattle.hour.specs.Hour.{entries}
 use Rattle.saved.specs.Texts.{saved_text}
-use Rattle.settlement.proofs.runs.saved.Goals as goal
+use Rattle.settlement.proofs.runs.Desk.save.Goals as goal
 
 -- what is cut off behind a text leaves the text
 only_text : (text out behind more : List ℕ) (n m : ℕ) → n ≡ length text → n ≤ m → out ≡ text ++ behind → take n (take m (out ++ more)) ≡ text
@@ -15,7 +15,7 @@ only_text text out behind more n m long room is =
     ∙ take_all n text (omega arith)
 
 pub returns-in-Ok : goal.returns-in-Ok
-returns-in-Ok c =
+returns-in-Ok g c =
     let text = saved_text (entries c.args.book.now) in
     let saved = c.in-Ok.ensures.saved in
     let room = c.in_ok-buffer.ensures.len in
