@@ -80,13 +80,11 @@ impl<W: Weighting, P: Posting> Desk<'_, W, P> {
         ensures { IfOk result (λ a. Saves room (entries book.now) a) }
     {
         let mut buffer = vec![in self.heap; 0u8; room]?;
-        match save(book, buffer.as_mut_slice()) {
-            Ok(length) => {
-                buffer.truncate(length);
-                Ok(Answer::Saved(Ok(buffer)))
-            }
-            Err(refusal) => Ok(Answer::Saved(Err(refusal))),
-        }
+        let saved = save(book, buffer.as_mut_slice()).map(|length| {
+            buffer.truncate(length);
+            buffer
+        });
+        Ok(Answer::Saved(saved))
     }
 
     // The price of a point in a market.
