@@ -39,76 +39,76 @@ pub fn settle<W: Weighting, P: Posting>(
     ensures answers { IfOk result (λ done. AnswersAll (W.Weighting.meaning weighting.now) (P.Posting.grid posting.now) fresh deeds.now done.answers.items) }
     ensures promise { OnOk result (Promise deeds.now) }
 {
+    let desk = Desk {
+        heap,
+        weighting,
+        posting,
+    };
     let mut book = Book::fresh();
     let mut answers = Vec::new(heap);
     for deed in deeds {
-        answers.push(work(heap, &mut book, deed, weighting, posting)?)?;
+        answers.push(desk.work(&mut book, deed)?)?;
     }
     Ok(Run { book, answers })
 }
 
-// Works one deed.
-fn work<W: Weighting, P: Posting>(
+// What the deeds of a run are worked with.
+#[derive(Drop)]
+struct Desk<'a, W, P> {
     heap: Global,
-    book: &mut Book,
-    deed: &Deed,
-    weighting: &W,
-    posting: &P,
-) -> Result<Answer, AllocError>
-    ensures hour { OnOk result (entries book.new ≡ after_deed (entries book.old) deed.now) }
-    ensures answer { IfOk result (λ a. Answers (W.Weighting.meaning weighting.now) (P.Posting.grid posting.now) (entries book.old) deed.now a) }
-{
-    match *deed {
-        Deed::Call(call) => Ok(Answer::Called(book.apply(&call))),
-        Deed::Save(room) => saved(heap, book, room),
-        Deed::Resume(text) => Ok(Answer::Resumed(resume(book, text))),
-        Deed::Price(market, point) => Ok(Answer::Priced(point_price(book, market, point, posting))),
-        Deed::PriceWeighting(market) => Ok(Answer::Priced(weighting_price(
-            book, market, weighting, posting,
-        ))),
-    }
+    weighting: &'a W,
+    posting: &'a P,
 }
 
-// The saved text, where it has room.
-fn saved(heap: Global, book: &Book, room: usize) -> Result<Answer, AllocError>
-    ensures { IfOk result (λ a. Saves room (entries book.now) a) }
-{
-    let mut buffer = vec![in heap; 0u8; room]?;
-    match save(book, buffer.as_mut_slice()) {
-        Ok(length) => {
-            buffer.truncate(length);
-            Ok(Answer::Saved(Ok(buffer)))
+impl<W: Weighting, P: Posting> Desk<'_, W, P> {
+    // Works one deed.
+    fn work(&self, book: &mut Book, deed: &Deed) -> Result<Answer, AllocError>
+        ensures hour { OnOk result (entries book.new ≡ after_deed (entries book.old) deed.now) }
+        ensures answer { IfOk result (λ a. Answers (W.Weighting.meaning self.now.weighting.now) (P.Posting.grid self.now.posting.now) (entries book.old) deed.now a) }
+    {
+        match *deed {
+            Deed::Call(call) => Ok(Answer::Called(book.apply(&call))),
+            Deed::Save(room) => self.save(book, room),
+            Deed::Resume(text) => Ok(Answer::Resumed(resume(book, text))),
+            Deed::Price(market, point) => Ok(Answer::Priced(self.price_point(book, market, point))),
+            Deed::PriceWeighting(market) => Ok(Answer::Priced(self.price_weighting(book, market))),
         }
-        Err(refusal) => Ok(Answer::Saved(Err(refusal))),
     }
-}
 
-// The price of a point in a market.
-fn point_price<P: Posting>(
-    book: &Book,
-    market: Market,
-    point: Point,
-    posting: &P,
-) -> Result<(i64, Origin), Refusal>
-    ensures { PointPriced market point (P.Posting.grid posting.now) book.now result }
-{
-    match market {
-        Market::DayAhead => day_ahead_point(book, posting, point),
-        Market::RealTime => real_time_point(book, posting, point),
+    // The saved text, where it has room.
+    fn save(&self, book: &Book, room: usize) -> Result<Answer, AllocError>
+        ensures { IfOk result (λ a. Saves room (entries book.now) a) }
+    {
+        let mut buffer = vec![in self.heap; 0u8; room]?;
+        let saved = save(book, buffer.as_mut_slice()).map(|length| {
+            buffer.truncate(length);
+            buffer
+        });
+        Ok(Answer::Saved(saved))
     }
-}
 
-// The price of a weighting by itself in a market.
-fn weighting_price<W: Weighting, P: Posting>(
-    book: &Book,
-    market: Market,
-    weighting: &W,
-    posting: &P,
-) -> Result<(i64, Origin), Refusal>
-    ensures { WeightingPriced market (W.Weighting.meaning weighting.now) (P.Posting.grid posting.now) book.now result }
-{
-    match market {
-        Market::DayAhead => own_price(day_ahead_price(book, weighting, posting)),
-        Market::RealTime => own_price(real_time_price(book, weighting, posting)),
+    // The price of a point in a market.
+    fn price_point(
+        &self,
+        book: &Book,
+        market: Market,
+        point: Point,
+    ) -> Result<(i64, Origin), Refusal>
+        ensures { PointPriced market point (P.Posting.grid self.now.posting.now) book.now result }
+    {
+        match market {
+            Market::DayAhead => day_ahead_point(book, self.posting, point),
+            Market::RealTime => real_time_point(book, self.posting, point),
+        }
+    }
+
+    // The price of the weighting by itself in a market.
+    fn price_weighting(&self, book: &Book, market: Market) -> Result<(i64, Origin), Refusal>
+        ensures { WeightingPriced market (W.Weighting.meaning self.now.weighting.now) (P.Posting.grid self.now.posting.now) book.now result }
+    {
+        own_price(match market {
+            Market::DayAhead => day_ahead_price(book, self.weighting, self.posting),
+            Market::RealTime => real_time_price(book, self.weighting, self.posting),
+        })
     }
 }
