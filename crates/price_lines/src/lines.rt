@@ -1,9 +1,8 @@
 // The lines of the hubs and of the load zones, by number.
-ghost use Rattle.std.specs.Prelude.{◌≡◌, ◌≤◌, [], pos};
+ghost use Rattle.std.specs.Prelude.{◌≡◌, ◌≤◌, []};
 ghost use Rattle.std.specs.List.{flat_map};
 ghost use Rattle.hour.specs.Hour.{entries};
 ghost use Rattle.page.specs.Pages.{written};
-ghost use Rattle.weighting.specs.Hubs.{hub_number};
 ghost use Rattle.price_lines.specs.Lines.{line, hub_line, zone_line, hubs, zones_to, zone_text};
 ghost use Rattle.price_lines.specs.Adding.{Adds, AddsPriced};
 
@@ -52,7 +51,7 @@ impl<const N: usize> Lines<N> {
     {
         let point = Point {
             kind: Kind::Hub,
-            number: hub_number(hub),
+            number: i64::from(hub),
         };
         self.push_priced(market, point);
     }
@@ -87,19 +86,5 @@ impl<const N: usize> Lines<N> {
         for zone in 1..=16u8 {
             self.push_zone(book, market, zone);
         }
-    }
-}
-
-// The number by which a hub is named.
-fn hub_number(hub: Hub) -> i64
-    ensures { result ≡ pos (hub_number hub) }
-{
-    match hub {
-        Hub::North => 1,
-        Hub::South => 2,
-        Hub::Houston => 3,
-        Hub::West => 4,
-        Hub::Panhandle => 5,
-        Hub::Average => 6,
     }
 }

@@ -3,12 +3,11 @@ ghost use Rattle.std.specs.Prelude.{◌≡◌, ◌≤◌, is_some, None, MatchOp
 ghost use Rattle.hour.specs.Hour.{entries, constraint_at};
 ghost use Rattle.hour.specs.Live.{base_live, live_under};
 ghost use Rattle.hour.specs.declared.records.Market.TheVariants.{DayAhead};
-ghost use Rattle.weighting.specs.BookLimits.{load_in};
 ghost use Rattle.weighting.specs.Views.{CaseOf, view};
 
 use bus_set::{BusSet, contains};
 use hour::book::Book;
-use hour::records::{Bus, Market};
+use hour::records::Market;
 
 // The loads of a case are those of its market.
 #[derive(Clone, Copy)]
@@ -71,15 +70,6 @@ impl Case<'_> {
     pub fn load(&self, bus: u8) -> u16
         ensures { result ≡ (view self.now).load bus }
     {
-        load_in(self.market, self.book.bus(bus))
-    }
-}
-
-fn load_in(market: Market, bus: Bus) -> u16
-    ensures { result ≡ load_in market bus }
-{
-    match market {
-        Market::DayAhead => bus.day_ahead.load,
-        Market::RealTime => bus.real_time.load,
+        self.book.bus(bus).standing(self.market).load
     }
 }
