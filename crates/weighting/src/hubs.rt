@@ -140,6 +140,7 @@ pub fn members_of(book: &Book) -> [BusSet; 156]
     let mut all = [[0u64; 4]; 156];
     for (bus, record) in book.buses().enumerate() {
         let k = usize::from(record.hub_bus);
+        // A bus below 256 fits: an error to take apart would be no plainer.
         all[k] = marked(all[k], bus as u8, true);
     }
     all

@@ -89,6 +89,7 @@ fn case(book: &Book, constraint: Option<i64>) -> Result<Case<'_>, Refusal>
 fn case_under(book: &Book, number: i64) -> Result<Case<'_>, Refusal>
     ensures { CasedIn book.now (numbered (entries book.now) (up_to number 31)) result }
 {
+    // At most 31, so it fits: an error to take apart would be no plainer.
     let k = up_to(number, LAST_CONSTRAINT, Refusal::ConstraintOutside)? as u8;
     Case::under(book, k).ok_or(Refusal::NotPosted)
 }

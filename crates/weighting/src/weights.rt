@@ -4,7 +4,7 @@ ghost use Rattle.weighting.specs.Sums.{sum_below};
 ghost use Rattle.weighting.specs.Meanings.{most_total};
 
 // The weights of all buses in a case, and their total.
-#[derive(Clone, Copy)]
+#[derive(Clone, Copy, PartialEq, Eq, Debug)]
 pub struct Weights {
     pub weights: [u32; 256],
     pub total: u32,
