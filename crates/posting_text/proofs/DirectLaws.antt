@@ -1,6 +1,7 @@
 -- The laws of the direct posting.
 use Rattle.std.proofs.Common.{◌≡◌, ℕ, true, false, ◌&&◌, eqb, List, [], ◌∷◌, ◌++◌, ℤ, pos, Ok, Err, Result, sym, refl, ap, ◌∙◌, subst, inl, inr, ⊎_elim, append_assoc, append-nil}
 use Rattle.std.proofs.lemmas.Bool.{cond-true, cond-false, cond_both, cases_Bool, and_from, and_parts, both_ways, eqb-true, eq-eqb}
+use Rattle.std.proofs.lemmas.List.Sums.{fold-append}
 use Rattle.faults.specs.declared.Spot.{Spot}
 use Rattle.cuts.specs.Cuts.{split, on_first}
 use Rattle.cuts.proofs.Cutting.{split_front, split_plain, split_append}
@@ -56,14 +57,10 @@ lines_unended : (line : List ℕ) → OneLine line → lines line ≡ []
 unfolding lines
 lines_unended line h = ap ended (split_plain line_end line h)
 
-last_append : (bus column : ℕ) (z : ℤ) (ls ms : List (List ℕ)) → last_number bus column z (ls ++ ms) ≡ last_number bus column (last_number bus column z ls) ms
-last_append bus column z [] ms = refl
-last_append bus column z (l ∷ ls) ms = last_append bus column (number_after bus column z (line_entry l)) ls ms
-
 -- what follows a whole text goes on from its number
 direct_append : (s t : List ℕ) → Whole s → (bus column : ℕ) → direct_number (s ++ t) bus column ≡ last_number bus column (direct_number s bus column) (lines t)
 unfolding direct_number
-direct_append s t w bus column = ap (last_number bus column (pos 0)) (lines_append s t w) ∙ last_append bus column (pos 0) (lines s) (lines t)
+direct_append s t w bus column = ap (last_number bus column (pos 0)) (lines_append s t w) ∙ fold-append (λ (z : ℤ) (l : List ℕ). number_after bus column z (line_entry l)) (pos 0) (lines s) (lines t)
 
 direct_line : (s line : List ℕ) → Whole s → OneLine line → (bus column : ℕ)
     → direct_number (with_line s line) bus column ≡ number_after bus column (direct_number s bus column) (line_entry line)
