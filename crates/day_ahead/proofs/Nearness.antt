@@ -32,8 +32,16 @@ near_more n s a w = record {
 -- the sum and the fraction with one term more
 split : (s r x t : ℤ) (m d : ℕ) → ((s +ℤ r) *ℤ pos (m * d)) -ℤ ((t *ℤ pos d) +ℤ (x *ℤ pos m)) ≡ (((s *ℤ pos m) -ℤ t) *ℤ pos d) +ℤ (((r *ℤ pos d) -ℤ x) *ℤ pos m)
 split s r x t m d =
-    omega (arith, ints, I.add_mul s r (pos (m * d)), I.mul_assoc s (pos m) (pos d), I.mul_assoc r (pos d) (pos m), ap (λ (n : ℕ). r *ℤ pos n) (mul_comm m d),
-    I.sub_mul (s *ℤ pos m) t (pos d), I.sub_mul (r *ℤ pos d) x (pos m))
+    omega (
+      arith,
+      ints,
+      I.add_mul s r (pos (m * d)),
+      I.mul_assoc s (pos m) (pos d),
+      I.mul_assoc r (pos d) (pos m),
+      ap (λ (n : ℕ). r *ℤ pos n) (mul_comm m d),
+      I.sub_mul (s *ℤ pos m) t (pos d),
+      I.sub_mul (r *ℤ pos d) x (pos m),
+    )
 
 near_plus : (n : ℕ) (s x : ℤ) (a : Fraction) (d : ℕ) → 0 < d → Near n s a → Near (suc n) (s +ℤ half_up x d) (plus a x d)
 near_plus n s x a d l w =

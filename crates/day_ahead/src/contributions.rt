@@ -47,7 +47,7 @@ impl<W: Weighting, P: Posting> Pricing<'_, W, P> {
         ensures bound { Within most_contributions result }
     {
         let mut sum = 0;
-        // A chain with `sum` would leave the bound of each signed step to be shown; the loop has it from the number of steps.
+        // No chain: `sum` asks that each signed step fits, which the loop's invariant says and a chain cannot.
         for k in 0..32 {
             sum += self.contribution(k).unwrap_or(0);
         }

@@ -1,6 +1,6 @@
 // The real-time price: the weighted price sum of each entered run, with its adders, times its seconds, over the interval's seconds and
 // the total weight.
-ghost use Rattle.std.specs.Prelude.{◌≡◌, ◌*◌, ◌<◌, ◌≤◌, true, pos, ◌+ℤ◌, ◌*ℤ◌, MatchOption};
+ghost use Rattle.std.specs.Prelude.{◌≡◌, ◌<◌, ◌≤◌, true, pos, ◌+ℤ◌, ◌*ℤ◌, MatchOption};
 ghost use Rattle.posting.specs.Grids.{Within};
 ghost use Rattle.hour.specs.Hour.{entries, run_at};
 ghost use Rattle.hour.specs.Sound.{when_some, run_sound};
@@ -59,7 +59,7 @@ fn hour_sum<P: Posting>(book: &Book, weights: &Weights, posting: &P) -> i128
 {
     let runs = book.runs().as_slice();
     let mut sum = 0;
-    // A chain with `sum` would leave the bound of each signed step to be shown; the loop has it from the number of runs.
+    // No chain: `sum` asks that each signed step fits, which the loop's invariant says and a chain cannot.
     for (column, run) in runs.iter().enumerate() {
         sum += run_part(weights, posting, column, *run);
     }
