@@ -1,14 +1,15 @@
 -- A line cut at its blanks, and what `split_once` says of the first one.
-use Rattle.std.proofs.Common.{◌≡◌, ℕ, ◌+◌, ◌<◌, ◌≤◌, Bool, true, false, List, [], ◌∷◌, ◌++◌, length, get_or, take, drop, Some, sym, refl, ap, ◌∙◌, subst, ⊎_elim, arith}
+use Rattle.std.proofs.Common.{◌≡◌, ℕ, ◌+◌, ◌<◌, ◌≤◌, Bool, true, false, List, [], ◌∷◌, ◌++◌, length, get_or, take, drop, Some, None, Option, sym, refl, ap, ◌∙◌, subst, ⊎_elim, arith}
 use Rattle.std.specs.Char.{char_set_contains}
-use Rattle.std.specs.Str.Pattern.{FindsBy}
+use Rattle.std.specs.Str.Pattern.{FindsBy, FindsPrefixBy, CutsPrefixes, IsFullyTrimmed, IsTrimStartMatches}
+use Rattle.std.specs.Char.{IsScalar}
 use Rattle.std.specs.Str.{NoCharPasses}
 use Rattle.std.specs.List.{AllByRecursion as All}
 use Rattle.std.proofs.ByRecursion.{All-from_get_or}
-use Rattle.std.proofs.lemmas.List.{take-append-drop, length-append}
+use Rattle.std.proofs.lemmas.List.{take-append-drop, length-drop}
 use Rattle.std.proofs.lemmas.Str.Pattern.{drop_at_char}
-use Rattle.std.proofs.lemmas.Bool.{cond-true, cond-false, cases_Bool, cases_lt}
-use Rattle.std.proofs.lemmas.Str.{NoCharPasses-byte}
+use Rattle.std.proofs.lemmas.Bool.{cond-true, cond-false, cases_Bool, cases_lt, both_ways}
+use Rattle.std.proofs.lemmas.Str.{NoCharPasses-byte, encode_ascii}
 use Rattle.std.proofs.lemmas.Bool.Decides.{nat_tests}
 use Rattle.script.specs.Words.{blanks, blank, before, pieces, filled, words}
 
@@ -77,17 +78,44 @@ parted s w t (i, j, finds, p, q, _, _, _) = by_first (finds blank (λ _. refl))
       plain = subst (λ (u : List ℕ). Plain u) (sym p) (plain_without (take i s) none);
     }
 
-pub shorter : (s w t : List ℕ) → Parted s w t → length t < length s
-shorter s w t p = omega (arith, simp length-append at (ap length p.parts))
-
 pub words_parted : (s w t : List ℕ) → Parted s w t → 0 < length w → words s ≡ w ∷ words t
 words_parted s w t p l = ap words p.parts ∙ words_append w p.by t p.plain p.is_blank l
-
--- an empty piece is no word
-pub words_passed : (s w t : List ℕ) → Parted s w t → length w ≡ 0 → words s ≡ words t
-words_passed s [] t p l = ap words p.parts ∙ words_blank p.by t p.is_blank
-words_passed s (x ∷ w) t p l = absurd (omega arith)
 
 pub words_empty : (s : List ℕ) → length s ≡ 0 → words s ≡ []
 words_empty [] l = words_none
 words_empty (x ∷ s) l = absurd (omega arith)
+
+-- what the blanks say of the front of a text
+abbrev pub Front : List ℕ → Option ℕ → Type 0
+Front s o = (k : ℕ → Bool) → ((c : ℕ) → char_set_contains blanks c ≡ k c) → FindsPrefixBy k s o
+
+words_dropped : (s : List ℕ) (n : ℕ) → FindsPrefixBy blank s (Some n) → words (drop n s) ≡ words s
+words_dropped s n (c, e, at) = sym (ap words (drop_at_char c s 0 n at (blank_ascii c e)) ∙ words_blank c (drop n s) e)
+
+pub words_trimmed : (s r : List ℕ) (ns : List ℕ) → CutsPrefixes Front s ns r → words r ≡ words s
+words_trimmed s r [] e = ap words e
+words_trimmed s r (n ∷ ns) (m, h, f, e) = ap words e ∙ words_dropped m n (f blank (λ _. refl)) ∙ words_trimmed s m ns h
+
+scalar_blank : (b : ℕ) → blank b ≡ true → IsScalar b
+scalar_blank b e = grind (arith, nat_tests)
+
+-- a trimmed text begins with no blank
+no_front : (r : List ℕ) (b : ℕ) (t : List ℕ) → IsFullyTrimmed Front r → r ≡ b ∷ t → blank b ≡ true → ⊥
+no_front r b t (None, f, _) e y = both_ways (blank b) (f blank (λ _. refl) b t (scalar_blank b y) (e ∙ ap (λ l. l ++ t) (sym (encode_ascii b (blank_ascii b y))))) y
+no_front r b t (Some n, f, z) e y = within (f blank (λ _. refl))
+  where
+    within : FindsPrefixBy blank r (Some n) → ⊥
+    within (c, h, at) = omega (arith, z, ap length (drop_at_char c r 0 n at (blank_ascii c h)), length-drop n r)
+
+pub words_cut : (s r w t : List ℕ) → IsTrimStartMatches Front s r → Found r w t → words s ≡ w ∷ words t
+words_cut s r w t ((ns, h), f) g = sym (words_trimmed s r ns h) ∙ by_first w (parted r w t g)
+  where
+    by_first : (w : List ℕ) → Parted r w t → words r ≡ w ∷ words t
+    by_first [] p = absurd (no_front r p.by t f p.parts p.is_blank)
+    by_first (x ∷ w) p = words_parted r (x ∷ w) t p (omega arith)
+
+pub words_last : (s r : List ℕ) → IsTrimStartMatches Front s r → NoCharPasses blank r → 0 < length r → words s ≡ r ∷ words []
+words_last s r ((ns, h), f) g l = sym (words_trimmed s r ns h) ∙ words_plain r (plain_without r g) l ∙ ap (λ ws. r ∷ ws) (sym words_none)
+
+pub words_out : (s r : List ℕ) → IsTrimStartMatches Front s r → length r ≡ 0 → words s ≡ []
+words_out s r ((ns, h), f) l = sym (words_trimmed s r ns h) ∙ words_empty r l

@@ -13,21 +13,17 @@ use hour::records::Market;
 use std::str::FromStr;
 use weighting::points::Kind;
 
+const BLANKS: [char; 3] = [' ', '\t', '\r'];
+
 // The first word of a line, and what follows it.
 fn cut(line: &str) -> Option<(&str, &str)>
     ensures first { MatchOption result (words line.now ≡ []) (λ p. words line.now ≡ p.0.now ∷ words p.1.now) }
 {
-    let mut rest = line;
-    while let Some((word, after)) = rest.split_once([' ', '\t', '\r']) {
-        if !word.is_empty() {
-            return Some((word, after));
-        }
-        rest = after;
-    }
-    if rest.is_empty() {
-        None
-    } else {
-        Some((rest, ""))
+    let line = line.trim_start_matches(BLANKS);
+    match line.split_once(BLANKS) {
+        Some(parts) => Some(parts),
+        None if line.is_empty() => None,
+        None => Some((line, "")),
     }
 }
 
