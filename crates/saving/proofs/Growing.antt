@@ -1,6 +1,6 @@
 -- One line added to a draft after another.
-use Rattle.std.proofs.Common.{◌≡◌, ℕ, ◌+◌, Bool, true, false, cond, List, [], ◌∷◌, ◌++◌, pos, sym, refl, ap, ◌∙◌, subst, append_assoc, add-one, arith}
-use Rattle.std.specs.List.{flat_map}
+use Rattle.std.proofs.Common.{◌≡◌, ℕ, ◌+◌, Bool, true, false, cond, List, [], ◌∷◌, ◌++◌, pos, sym, ap, subst, add-one, arith}
+use Rattle.std.proofs.lemmas.Grind.{flat_map-append}
 use Rattle.std.proofs.lemmas.List.{length-append}
 use Rattle.page.specs.declared.pages.Page.{Page}
 use Rattle.page.proofs.Pushing.{nothing_added}
@@ -13,10 +13,6 @@ use Rattle.saving.specs.Adding.{Adds, longest}
 use Rattle.saving.specs.Growing.{Grows}
 use Rattle.saving.proofs.Adding.{add_then, add_same}
 
-pub joined_append : (xs ys : List Row) → flat_map line_text (xs ++ ys) ≡ flat_map line_text xs ++ flat_map line_text ys
-joined_append [] ys = refl
-joined_append (x ∷ xs) ys = ap (λ (t : List ℕ). line_text x ++ t) (joined_append xs ys) ∙ sym (append_assoc (line_text x) (flat_map line_text xs) (flat_map line_text ys))
-
 add_none : (p : Page longest) → Adds [] p p
 add_none p = record { text = nothing_added p }
 
@@ -25,7 +21,7 @@ grow_none d = record { text = add_none d.page; count = λ fits. omega arith }
 
 pub grow_then : {a b c : Draft} {xs ys : List Row} → Grows xs a b → Grows ys b c → Grows (xs ++ ys) a c
 grow_then {a} {b} {c} {xs} {ys} g h = record {
-  text = add_same (add_then g.text h.text) (sym (joined_append xs ys));
+  text = add_same (add_then g.text h.text) (sym (flat_map-append line_text xs ys));
   count = λ fits. omega (arith, g.count, h.count, length-append xs ys);
 }
 

@@ -3,6 +3,7 @@ use Rattle.std.proofs.Common.{◌≡◌, ℕ, zero, suc, ◌+◌, ◌*◌, ◌^�
 use Rattle.std.specs.List.{flat_map}
 use Rattle.std.specs.Fmt.{signed_decimal}
 use Rattle.std.proofs.lemmas.Fmt.{length-decimal-le, length_signed_le}
+use Rattle.std.proofs.lemmas.Grind.{flat_map-append}
 use Rattle.std.proofs.lemmas.List.{length-append}
 use Rattle.std.proofs.lemmas.List.Sums.{sum_by-cons}
 use Rattle.std.proofs.lemmas.Bool.{and_parts, and_from, leb-true, le-leb}
@@ -22,14 +23,13 @@ use Rattle.saved_rows.specs.Rows.{indexed, bus_numbers, bus_rows, lambda_rows, o
 use Rattle.saved_rows.proofs.Writable.{all_writable}
 use Rattle.saved.specs.Texts.{status_text, line_text, saved_text}
 use Rattle.saving.specs.Laws.{Fits}
-use Rattle.saving.proofs.Growing.{joined_append}
 
 -- the text of lines has at most m bytes
 abbrev Short : List Row → ℕ → Type 0
 Short rs m = length (flat_map line_text rs) ≤ m
 
 short_append : (xs ys : List Row) (m n : ℕ) → Short xs m → Short ys n → Short (xs ++ ys) (m + n)
-short_append xs ys m n a b = rw joined_append (omega (arith, a, b, length-append (flat_map line_text xs) (flat_map line_text ys)))
+short_append xs ys m n a b = rw flat_map-append (omega (arith, a, b, length-append (flat_map line_text xs) (flat_map line_text ys)))
 
 short_one : (r : Row) (m : ℕ) → length (line_text r) ≤ m → Short (r ∷ []) m
 short_one r m h = omega (arith, h, length-append (line_text r) [])
