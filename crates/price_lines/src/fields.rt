@@ -25,13 +25,13 @@ impl<const N: usize> Lines<N> {
     }
 
     // P, the letter of the kind and the number.
+    #[tactic(auto, using(crate::proofs::Lengths::signed_short))]
     fn push_point(&mut self, point: Point)
         ensures added { written self.new.page ≡ take N (written self.old.page ++ point_fields point) }
         ensures short { length (point_fields point) ≤ 24 }
     {
-        self.page.push_all(b"P,");
-        self.page.push(kind_letter(point.kind));
-        self.page.push(b',');
+        self.page
+            .push_all(&[b'P', b',', kind_letter(point.kind), b',']);
         self.page.push_number(point.number);
     }
 

@@ -87,7 +87,7 @@ impl<W: Weighting, P: Posting> Desk<'_, W, P> {
         Ok(Answer::Saved(saved))
     }
 
-    // The price of a point in a market.
+    // The price of a point in a market. Two markets with a function each: a match says it plainest.
     fn price_point(
         &self,
         book: &Book,
