@@ -1,5 +1,5 @@
 -- The laws of cutting and joining.
-use Rattle.std.proofs.Common.{◌≡◌, ℕ, suc, ◌+◌, Bool, true, false, cond, not, eqb, ltb, List, [], ◌∷◌, ◌++◌, length, take, drop, Some, None, Option, MatchOption, sym, refl, ap, ap₂, ◌∙◌, subst, ⊎_elim, one-add, arith}
+use Rattle.std.proofs.Common.{◌≡◌, ℕ, suc, ◌+◌, ◌<◌, Bool, true, false, cond, not, eqb, ltb, List, [], ◌∷◌, ◌++◌, length, take, drop, Some, None, Option, MatchOption, sym, refl, ap, ap₂, ◌∙◌, subst, ⊎_elim, one-add, arith}
 use Rattle.std.proofs.lemmas.List.{take_all}
 use Rattle.std.proofs.lemmas.Bool.Decides.{nat_tests}
 use Rattle.std.specs.List.{AllByRecursion as All, position_or_len, position}
@@ -61,6 +61,21 @@ module _ (sep : ℕ) where
   split_front (x ∷ xs) = ⊎_elim
       (λ (e : eqb x sep ≡ true). cond-true _ _ _ e ∙ ap (λ b. cond b [] (x ∷ front sep xs) ∷ split_rest sep (cond b (Some xs) (after sep xs))) (sym e))
       (λ (e : eqb x sep ≡ false). cond-false _ _ _ e ∙ ap (on_first x) (split_front xs) ∙ ap (λ b. cond b [] (x ∷ front sep xs) ∷ split_rest sep (cond b (Some xs) (after sep xs))) (sym e))
+      (cases_Bool (eqb x sep))
+
+  -- a text without a separator is its own first piece
+  pub front_whole : (x : ℕ) (xs : List ℕ) → after sep (x ∷ xs) ≡ None → front sep (x ∷ xs) ≡ x ∷ front sep xs
+  front_whole x xs e = ⊎_elim
+      (λ (d : eqb x sep ≡ true). let z : Some xs ≡ None = sym (cond-true _ _ _ d) ∙ e in let q : ◌≡◌ {A = ℕ} 0 1 = cc in absurd (omega arith))
+      (λ (d : eqb x sep ≡ false). cond-false _ _ _ d)
+      (cases_Bool (eqb x sep))
+
+  -- what stands behind a separator is shorter than the text
+  pub after_shorter : (s t : List ℕ) → after sep s ≡ Some t → length t < length s
+  after_shorter [] t e = let q : ◌≡◌ {A = ℕ} 0 1 = cc in absurd (omega arith)
+  after_shorter (x ∷ xs) t e = ⊎_elim
+      (λ (d : eqb x sep ≡ true). let z : Some xs ≡ Some t = sym (cond-true _ _ _ d) ∙ e in let q : xs ≡ t = cc in omega (arith, ap length q))
+      (λ (d : eqb x sep ≡ false). omega (arith, after_shorter xs t (sym (cond-false _ _ _ d) ∙ e)))
       (cases_Bool (eqb x sep))
 
   -- no separator among the bytes

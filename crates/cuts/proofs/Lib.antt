@@ -1,3 +1,4 @@
 pub mod Cutting
 pub mod Taking
 pub mod Locating
+pub mod Plains

@@ -14,6 +14,7 @@ use Rattle.decimals.proofs.Signs.{own, decimal_signed, signed_decimal}
 use Rattle.cuts.specs.Cuts.{split, join}
 use Rattle.cuts.specs.Fields.{comma, form_at, letter_of}
 use Rattle.cuts.proofs.Cutting.{Plain, split_join, join_split}
+use Rattle.cuts.proofs.Plains.{signed_plain}
 use Rattle.cuts.proofs.Taking.{taken_field, ended, only_byte}
 use Rattle.posting.specs.Limits.{buses, columns, most_table_number}
 use Rattle.posting.specs.Grids.{Within}
@@ -36,16 +37,6 @@ few_index n h = omega arith
 -- the pieces of a line that an entry writes
 abbrev pub pieces_of : Numbers → List (List ℕ)
 pieces_of n = (letter ∷ []) ∷ signed n.bus ∷ signed n.column ∷ signed n.value ∷ []
-
--- no byte below the minus stands in a number
-decimal_plain : (sep n : ℕ) → sep < 48 → n < 10 ^ 15 → Plain sep (decimal n)
-decimal_plain sep n s h =
-    let big : n < 2 ^ 64 = omega arith in
-    All-from_get_or (λ b. b ≡ sep → ⊥) (decimal n) 0 (λ i l e. not_in_digits own (decimal n) sep (digits_decimal own n big) (λ q. omega arith) i l e)
-
-signed_plain : (sep : ℕ) (z : ℤ) → sep < 45 → FewDigits z → Plain sep (signed z)
-signed_plain sep (pos n) s h = decimal_plain sep n (omega arith) h
-signed_plain sep (negsuc n) s h = ((λ e. omega arith), decimal_plain sep (suc n) (omega arith) h)
 
 pieces_plain : (sep : ℕ) (e : Entry) → sep < 45 → Right e → All (Plain sep) (pieces_of (numbers_in e))
 pieces_plain sep e s r = (

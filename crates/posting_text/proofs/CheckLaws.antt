@@ -6,7 +6,7 @@ use Rattle.faults.specs.declared.Spot.{Spot}
 use Rattle.faults.specs.declared.Fault.{Fault}
 use Rattle.faults.specs.Faults.{spot, fault, in_line}
 use Rattle.cuts.specs.Cuts.{front, after, split}
-use Rattle.cuts.proofs.Cutting.{Plain, split_append}
+use Rattle.cuts.proofs.Cutting.{Plain, split_append, after_shorter}
 use Rattle.posting.specs.Limits.{places}
 use Rattle.posting_text.specs.declared.entries.Entry.{Entry}
 use Rattle.posting_text.specs.Lines.{line_entry, and_then}
@@ -15,7 +15,7 @@ use Rattle.posting_text.specs.Written.{Right, written, text_of}
 use Rattle.posting_text.specs.Keeping.{never, then_held}
 use Rattle.posting_text.specs.Filling.{granting}
 use Rattle.posting_text.specs.Laws.{InOrder, FirstFault}
-use Rattle.posting_text.proofs.Turning.{turn, check_turn, passing_rest, after_shorter, more_turn}
+use Rattle.posting_text.proofs.Turning.{turn, check_turn, passing_rest, more_turn}
 use Rattle.posting_text.proofs.Canonical.{entry_written, written_entry, written_plain}
 
 -- a line end and what stands around it
@@ -52,7 +52,7 @@ written_past s t h =
     let p : passing (front line_end s) (Some t) ≡ Ok t = sym (ap (passing (front line_end s)) a) ∙ h in
     let n = then_held (line_entry (front line_end s)) (λ _. Ok t) t p in
     let w = written_entry (front line_end s) n.0 n.1 in
-    (n.0, w.1, front_after s t a ∙ ap (λ (l : List ℕ). l ++ (line_end ∷ t)) w.0, after_shorter s t a)
+    (n.0, w.1, front_after s t a ∙ ap (λ (l : List ℕ). l ++ (line_end ∷ t)) w.0, after_shorter line_end s t a)
 
 -- the same of a text behind n lines
 pub record InOrderBehind (n : ℕ) (text : List ℕ) (m : ℕ) : Type 0 where

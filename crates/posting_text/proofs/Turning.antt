@@ -7,7 +7,7 @@ use Rattle.faults.specs.declared.Spot.{Spot}
 use Rattle.faults.specs.declared.Why.TheVariants.{Form}
 use Rattle.faults.specs.Faults.{spot, fault, in_line}
 use Rattle.cuts.specs.Cuts.{front, after, split, split_rest}
-use Rattle.cuts.proofs.Cutting.{split_front}
+use Rattle.cuts.proofs.Cutting.{split_front, front_whole, after_shorter}
 use Rattle.posting_text.specs.declared.entries.Numbers.{Numbers}
 use Rattle.posting_text.specs.declared.entries.Entry.{Entry}
 use Rattle.posting_text.specs.Entries.{entry_of}
@@ -26,12 +26,6 @@ lines_none s e = ap ended (split_front line_end s ∙ ap (λ o. front line_end s
 pub lines_some : (s t : List ℕ) → after line_end s ≡ Some t → lines s ≡ front line_end s ∷ lines t
 unfolding lines
 lines_some s t e = ap ended (split_front line_end s ∙ ap (λ o. front line_end s ∷ split_rest line_end o) e) ∙ ended_more (front line_end s) t
-
-some_front : (c : ℕ) (cs : List ℕ) → after line_end (c ∷ cs) ≡ None → front line_end (c ∷ cs) ≡ c ∷ front line_end cs
-some_front c cs e = ⊎_elim
-    (λ (d : eqb c line_end ≡ true). let z : Some cs ≡ None = sym (cond-true _ _ _ d) ∙ e in let q : ◌≡◌ {A = ℕ} 0 1 = cc in absurd (omega arith))
-    (λ (d : eqb c line_end ≡ false). cond-false _ _ _ d)
-    (cases_Bool (eqb c line_end))
 
 -- a text that is not empty is checked by its first line, and then by what stands behind it
 abbrev pub turn : ℕ → Result (List ℕ) Fault → Result ℕ Fault
@@ -57,7 +51,7 @@ turn_by : (n c : ℕ) (cs : List ℕ) (o : Option (List ℕ)) → after line_end
     → check_from n (split line_end (c ∷ cs)) ≡ turn n (in_line (n + 1) (passing (front line_end (c ∷ cs)) o))
 turn_by n c cs None e =
     ap (check_from n) (split_front line_end (c ∷ cs) ∙ ap (λ o. front line_end (c ∷ cs) ∷ split_rest line_end o) e)
-    ∙ last_turn n (front line_end (c ∷ cs)) c (front line_end cs) (some_front c cs e)
+    ∙ last_turn n (front line_end (c ∷ cs)) c (front line_end cs) (front_whole line_end c cs e)
 turn_by n c cs (Some t) e =
     ap (check_from n) (split_front line_end (c ∷ cs) ∙ ap (λ o. front line_end (c ∷ cs) ∷ split_rest line_end o) e)
     ∙ more_turn n (front line_end (c ∷ cs)) t
@@ -66,14 +60,6 @@ pub check_turn : (n : ℕ) (s : List ℕ) → 0 < length s → check_from n (spl
 unfolding past_line
 check_turn n [] h = absurd (omega arith)
 check_turn n (c ∷ cs) h = turn_by n c cs (after line_end (c ∷ cs)) refl
-
--- what stands behind a line is shorter than the text
-pub after_shorter : (s t : List ℕ) → after line_end s ≡ Some t → length t < length s
-after_shorter [] t e = let q : ◌≡◌ {A = ℕ} 0 1 = cc in absurd (omega arith)
-after_shorter (c ∷ cs) t e = ⊎_elim
-    (λ (d : eqb c line_end ≡ true). let z : Some cs ≡ Some t = sym (cond-true _ _ _ d) ∙ e in let q : cs ≡ t = cc in omega (arith, ap length q))
-    (λ (d : eqb c line_end ≡ false). omega (arith, after_shorter cs t (sym (cond-false _ _ _ d) ∙ e)))
-    (cases_Bool (eqb c line_end))
 
 passing_form : (l : List ℕ) (o : Option (List ℕ)) (e : Spot) → Err e ≡ line_numbers l → passing l o ≡ Err e
 unfolding line_entry
@@ -118,7 +104,7 @@ module _ (n : ℕ) (s : List ℕ) (r : Result (Bor (List ℕ)) Spot) (is : Match
 
   pub turn_shorter : (t : Bor (List ℕ)) → Ok t ≡ in_line (n + 1) r → length t.now < length s
   unfolding past_line
-  turn_shorter t e = after_shorter s t.now (passing_rest (front line_end s) (after line_end s) t.now (passed r is t e))
+  turn_shorter t e = after_shorter line_end s t.now (passing_rest (front line_end s) (after line_end s) t.now (passed r is t e))
 
   pub turn_on : false ≡ eqb (length s) 0 → (t : Bor (List ℕ)) → Ok t ≡ in_line (n + 1) r → check_from n (split line_end s) ≡ check_from (n + 1) (split line_end t.now)
   turn_on some t e = check_turn n s (grind (arith, nat_tests)) ∙ ap (λ (x : Result (List ℕ) Spot). turn n (in_line (n + 1) x)) (passed r is t e)

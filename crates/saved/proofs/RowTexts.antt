@@ -13,6 +13,7 @@ use Rattle.decimals.proofs.Signs.{own, decimal_signed, signed_decimal}
 use Rattle.cuts.specs.Cuts.{split, join}
 use Rattle.cuts.specs.Fields.{comma, form_at, not_status, status_of, number, status}
 use Rattle.cuts.proofs.Cutting.{Plain, split_join, join_split}
+use Rattle.cuts.proofs.Plains.{signed_plain}
 use Rattle.cuts.proofs.Taking.{taken_field, ended}
 use Rattle.saved_rows.specs.Laws.{Writable}
 use Rattle.saved_rows.specs.declared.row.Row.{Row}
@@ -22,15 +23,6 @@ use Rattle.saved.specs.Lines.{row_of, by_letter, bus_of, of_one, of_two, run_of}
 use Rattle.saved.specs.Texts.{line_end, status_text, fields_of}
 
 -- neither comma nor line end stands in a field
-decimal_plain : (sep n : ℕ) → sep < 48 → n < 10 ^ 15 → Plain sep (decimal n)
-decimal_plain sep n s h =
-    let big : n < 2 ^ 64 = omega arith in
-    All-from_get_or (λ b. b ≡ sep → ⊥) (decimal n) 0 (λ i l e. not_in_digits own (decimal n) sep (digits_decimal own n big) (λ q. omega arith) i l e)
-
-signed_plain : (sep : ℕ) (z : ℤ) → sep < 45 → FewDigits z → Plain sep (signed z)
-signed_plain sep (pos n) s h = decimal_plain sep n (omega arith) h
-signed_plain sep (negsuc n) s h = ((λ e. omega arith), decimal_plain sep (suc n) (omega arith) h)
-
 letter_plain : (sep b : ℕ) → sep < 45 → 45 < b → Plain sep (b ∷ [])
 letter_plain sep b s h = ((λ e. omega arith), tt)
 

@@ -8,7 +8,7 @@ use Rattle.faults.specs.declared.Fault.{Fault}
 use Rattle.faults.specs.Faults.{fault, in_line}
 use Rattle.cuts.specs.Cuts.{split, front, after, split_rest}
 use Rattle.cuts.specs.Fields.{comma}
-use Rattle.cuts.proofs.Cutting.{split_front}
+use Rattle.cuts.proofs.Cutting.{split_front, front_whole}
 use Rattle.hour.specs.Hour.{Hour}
 use Rattle.saved_rows.specs.declared.row.Row.{Row}
 use Rattle.saved_rows.specs.declared.stage.Stage.{Stage}
@@ -32,15 +32,9 @@ with_end p n l t =
     subst (λ (x : List (List ℕ)). read_from p n (l ∷ x) ≡ cond (finished p.stage) (Err (misended n)) (onward (in_line n (row_of (split comma l))) (λ r. onward (in_line n (step p (n - 1) r)) (λ q. read_from q (n + 1) x))))
     (sym (split_front line_end t)) refl
 
-some_front : (c : ℕ) (cs : List ℕ) → after line_end (c ∷ cs) ≡ None → front line_end (c ∷ cs) ≡ c ∷ front line_end cs
-some_front c cs e = ⊎_elim
-    (λ (d : eqb c line_end ≡ true). let z : Some cs ≡ None = sym (cond-true _ _ _ d) ∙ e in let q : ◌≡◌ {A = ℕ} 0 1 = cc in absurd (omega arith))
-    (λ (d : eqb c line_end ≡ false). cond-false _ _ _ d)
-    (cases_Bool (eqb c line_end))
-
 pub unroll : (p : Place) (n : ℕ) (s : List ℕ) (o : Option (List ℕ)) → 0 < length s → after line_end s ≡ o → read_from p n (split line_end s) ≡ in_turn p n (front line_end s) o
 unroll p n [] o h e = absurd (omega arith)
-unroll p n (c ∷ cs) None h e = ap (read_from p n) (split_front line_end (c ∷ cs) ∙ ap (λ x. front line_end (c ∷ cs) ∷ split_rest line_end x) e) ∙ subst (λ (l : List ℕ). read_last p n l ≡ in_turn p n l None) (sym (some_front c cs e)) refl
+unroll p n (c ∷ cs) None h e = ap (read_from p n) (split_front line_end (c ∷ cs) ∙ ap (λ x. front line_end (c ∷ cs) ∷ split_rest line_end x) e) ∙ subst (λ (l : List ℕ). read_last p n l ≡ in_turn p n l None) (sym (front_whole line_end c cs e)) refl
 unroll p n (c ∷ cs) (Some t) h e = ap (read_from p n) (split_front line_end (c ∷ cs) ∙ ap (λ x. front line_end (c ∷ cs) ∷ split_rest line_end x) e) ∙ with_end p n (front line_end (c ∷ cs)) t
 
 module _ (p : Place) (n : ℕ) (l : List ℕ) (o : Option (List ℕ)) where
@@ -52,13 +46,6 @@ module _ (p : Place) (n : ℕ) (l : List ℕ) (o : Option (List ℕ)) where
 
   pub turn_on : finished p.stage ≡ false → (r : Row) → Ok r ≡ in_line n (row_of (split comma l)) → in_turn p n l o ≡ after_row p n o r
   turn_on d r e = cond-false _ _ _ d ∙ ap (λ x. onward x (after_row p n o)) (sym e)
-
-pub after_length : (s t : List ℕ) → after line_end s ≡ Some t → length t < length s
-after_length [] t e = let q : ◌≡◌ {A = ℕ} 0 1 = cc in absurd (omega arith)
-after_length (c ∷ cs) t e = ⊎_elim
-    (λ (d : eqb c line_end ≡ true). let z : Some cs ≡ Some t = sym (cond-true _ _ _ d) ∙ e in let q : cs ≡ t = cc in omega (arith, ap length q))
-    (λ (d : eqb c line_end ≡ false). omega (arith, after_length cs t (sym (cond-false _ _ _ d) ∙ e)))
-    (cases_Bool (eqb c line_end))
 
 -- what a cut leaves, as the fault of a missing line end takes it
 pub ended_at : (s : List ℕ) (o : Option (Bor (List ℕ))) (e : Fault) (t : Bor (List ℕ)) → Ok t ≡ ok_or o e → MatchOption o (after line_end s ≡ None) (λ u. after line_end s ≡ Some u.now) → after line_end s ≡ Some t.now

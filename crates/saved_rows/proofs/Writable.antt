@@ -73,10 +73,10 @@ fit_constraint k (Some x) hk g =
     (((omega arith, few_within x.shadow_price most_shadow_price (omega arith) p.0), o.0), omega (arith, o.1))
 
 -- a run that is in its limits, and no longer than the hour's runs together
-abbrev short_run : Option Run → Bool
+abbrev pub short_run : Option Run → Bool
 short_run x = when_some run_sound x && leb (seconds_of x) 900
 
-all_short : (xs : List (Option Run)) → total_seconds xs ≤ 900 → all_by (when_some run_sound) xs ≡ true → all_by short_run xs ≡ true
+pub all_short : (xs : List (Option Run)) → total_seconds xs ≤ 900 → all_by (when_some run_sound) xs ≡ true → all_by short_run xs ≡ true
 all_short [] l g = refl
 all_short (x ∷ xs) l g =
     let p = and_parts (when_some run_sound x) (all_by (when_some run_sound) xs) g in

@@ -20,7 +20,7 @@ use Rattle.saved_rows.specs.declared.row.Row.{Row}
 use Rattle.saved_rows.specs.declared.row.Row.TheVariants as row
 use Rattle.saved_rows.specs.Order.{blank_bus}
 use Rattle.saved_rows.specs.Rows.{indexed, bus_numbers, bus_rows, lambda_rows, outage_rows, constraint_rows, run_row, rows}
-use Rattle.saved_rows.proofs.Writable.{all_writable}
+use Rattle.saved_rows.proofs.Writable.{short_run, all_short, all_writable}
 use Rattle.saved.specs.Texts.{status_text, line_text, saved_text}
 use Rattle.saving.specs.Laws.{Fits}
 
@@ -104,17 +104,6 @@ short_constraint k (Some x) hk g =
     let first = short_one (row.Constraint (pos k) x.shadow_price) 14 line in
     let both = short_append (row.Constraint (pos k) x.shadow_price ∷ []) (outage_rows k (member x.out) 256) 14 (9 * 256) first (short_outages k (member x.out) 256 hk (omega arith)) in
     omega (arith, both)
-
--- a run that is in its limits, and no longer than the hour's runs together
-abbrev short_run : Option Run → Bool
-short_run x = when_some run_sound x && leb (seconds_of x) 900
-
-all_short : (xs : List (Option Run)) → total_seconds xs ≤ 900 → all_by (when_some run_sound) xs ≡ true → all_by short_run xs ≡ true
-all_short [] l g = refl
-all_short (x ∷ xs) l g =
-    let p = and_parts (when_some run_sound x) (all_by (when_some run_sound) xs) g in
-    let s = sum_by-cons seconds_of x xs in
-    and_from (short_run x) (all_by short_run xs) (and_from (when_some run_sound x) (leb (seconds_of x) 900) p.0 (le-leb (seconds_of x) 900 (omega (arith, s, l)))) (all_short xs (omega (arith, s, l)) p.1)
 
 -- R,15,900,-1000000,-1000000
 short_run_row : (k : ℕ) (x : Option Run) → k < 16 → short_run x ≡ true → Short (run_row k x) 27

@@ -1,11 +1,12 @@
 use Rattle.std.proofs.Common.{None, Err, sym, refl, ap, ◌∙◌, arith}
 use Rattle.std.proofs.lemmas.Result.{err_from_is_err_and}
 use Rattle.cuts.specs.Cuts.{split}
+use Rattle.cuts.proofs.Cutting.{after_shorter}
 use Rattle.hour.specs.Hour.{entries}
 use Rattle.saved_rows.specs.Running.{place}
 use Rattle.saved.specs.Texts.{line_end}
 use Rattle.saved.specs.Reading.{read_from}
-use Rattle.saved.proofs.Turns.{at_done, on_err, on_row, after_err, after_ok, after_length, ended_at, unended_at}
+use Rattle.saved.proofs.Turns.{at_done, on_err, on_row, after_err, after_ok, ended_at, unended_at}
 use Rattle.saved.proofs.reading.read_text.Goals as goal
 
 pub loop-rest-init : goal.loop-rest-init
@@ -46,12 +47,12 @@ returns-in_err-stage c =
 pub loop-rest-smaller : goal.loop-rest-smaller
 loop-rest-smaller c =
     let e = ended_at c.loop-rest.rest.now c.cut.result.1 c.line_fault-in-loop-rest.result c.in_ok-rest.rest c.in_ok-rest.ensures.value c.cut.ensures.after in
-    after_length c.loop-rest.rest.now c.in_ok-rest.rest.now e
+    after_shorter line_end c.loop-rest.rest.now c.in_ok-rest.rest.now e
 
 pub loop-rest-preserved : goal.loop-rest-preserved
 loop-rest-preserved c =
     let e = ended_at c.loop-rest.rest.now c.cut.result.1 c.line_fault-in-loop-rest.result c.in_ok-rest.rest c.in_ok-rest.ensures.value c.cut.ensures.after in
-    let l = after_length c.loop-rest.rest.now c.in_ok-rest.rest.now e in (
+    let l = after_shorter line_end c.loop-rest.rest.now c.in_ok-rest.rest.now e in (
       sym (on_row (place c.loop-rest.stage (entries c.loop-rest.book)) c.loop-rest.line c.loop-rest.rest.now c.loop-rest-test.ensures _ c.cut.result.0.now c.read_row.result
           c.in_ok-row.row e c.if-is_done.ensures c.cut.ensures.front c.read_row.ensures c.in_ok-row.ensures
           ∙ after_ok (place c.loop-rest.stage (entries c.loop-rest.book)) c.loop-rest.line c.in_ok-rest.rest.now c.in_ok-row.row (entries c.take.new.book) c.take.result

@@ -36,7 +36,7 @@ returns-clause-value g c =
     let s = c.in_ok-constraint.constraint.shadow_price in
     let w = c.weigh-weights.result in
     let at = c.weigh-weights.ensures in
-    let like = c.in_ok-case.ensures.alike in
+    let like = c.in_ok-case.ensures.case.alike in
     divided_is m p book k c.in_ok-constraint.constraint (sym c.in_ok-constraint.ensures.value) w (at.weights (case_under book k) like) (at.total (case_under book k) like)
     _ c.half_up.result (product g c ∙ ap (λ (x : ℤ). x *ℤ s) (c.weighted_sum-sum.ensures.value ∙ ap (weighted_sum (weight_in w) p) c.from.ensures)) c.half_up.ensures.value c.half_up.ensures.nearest
 
