@@ -79,7 +79,7 @@ impl<const N: usize> Lines<N> {
         }
     }
 
-    // The lines of all zones that have a bus.
+    // The lines of all zones that have a bus. Zones are numbers only, with no list to go through.
     pub fn push_zones<M: Market>(&mut self, book: &Book, market: &M)
         ensures { Adds 16 (flat_map (zone_line (M.Market.price market.now)) (zones_to (entries book.now) 16)) self.old.page self.new.page }
     {

@@ -47,6 +47,7 @@ impl Entry for Option<Constraint> {
     }
 }
 
+// A set of buses is four words, with nothing to go through but its buses by number.
 fn push_outages(draft: &mut Draft, k: u8, out: BusSet)
     ensures { Grows (outage_rows k (member out) 256) draft.old draft.new }
 {
