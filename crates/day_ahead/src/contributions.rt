@@ -47,7 +47,7 @@ impl<W: Weighting, P: Posting> Pricing<'_, W, P> {
         ensures bound { Within most_contributions result }
     {
         let mut sum = 0;
-        // No chain: `sum` asks that each signed step fits, which the loop's invariant says and a chain cannot.
+        // Tried as a chain: that each step of a signed `sum` fits did not close. The loop has it from the number of steps.
         for k in 0..32 {
             sum += self.contribution(k).unwrap_or(0);
         }

@@ -7,7 +7,7 @@ use pricing::origins::Origin;
 use std::fmt;
 
 // A price in dollars and cents, and its origin.
-#[derive(Clone, Copy)]
+#[derive(Clone, Copy, PartialEq, Eq, Debug)]
 pub struct PriceText {
     pub cents: i64,
     pub origin: Origin,

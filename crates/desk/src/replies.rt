@@ -9,7 +9,7 @@ use script::writing::Written;
 use std::fmt;
 use weighting::points::Point;
 
-#[derive(Clone, Copy)]
+#[derive(Clone, Copy, PartialEq, Eq, Debug)]
 pub enum Reply {
     // An empty line or a remark.
     Passed,

@@ -59,7 +59,8 @@ impl Summary<'_> {
             }
         }
         writeln!(f, "")?;
-        for hub_bus in 1..156u8 {
+        // Hub buses are numbers only, with no list of them to go through.
+        for hub_bus in 1..=155u8 {
             let size = count(self.book.members(hub_bus));
             if size > 0 {
                 write!(f, "{hub_bus:>7}{size:>7}")?;

@@ -53,6 +53,7 @@ impl<const N: usize> Lines<N> {
     {
         self.page.push_number(cents);
         self.page.push(b',');
+        // The letters are three of ASCII, so the cast is proved to lose nothing.
         self.page.push(origin.letter() as u8);
     }
 

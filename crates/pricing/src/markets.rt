@@ -26,6 +26,7 @@ pub trait Market {
 pub fn hub_price<M: Market>(market: &M, hub: Hub) -> Result<(i64, Origin), Refusal>
     ensures { result ≡ hub_price (M.Market.price market.now (hub_meaning hub)) (M.Market.price market.now (hub_meaning Average)) }
 {
+    // A match, since `or_else` would only hold the same match in its closure.
     match own_price(market.price_of(&hub)) {
         Err(Refusal::NoWeight) => from_average(market.price_of(&Hub::Average)),
         priced => priced,

@@ -38,6 +38,7 @@ pub fn own_price(price: Result<i64, Refusal>) -> Result<(i64, Origin), Refusal>
 pub fn from_average(average: Result<i64, Refusal>) -> Result<(i64, Origin), Refusal>
     ensures { result ≡ from_average average }
 {
+    // A match, since `or_else` would only hold the same match in its closure.
     match average.map(|cents| (cents, Origin::Average)) {
         Err(Refusal::NoWeight) => Ok((0, Origin::Nothing)),
         priced => priced,

@@ -59,7 +59,7 @@ fn hour_sum<P: Posting>(book: &Book, weights: &Weights, posting: &P) -> i128
 {
     let runs = book.runs().as_slice();
     let mut sum = 0;
-    // No chain: `sum` asks that each signed step fits, which the loop's invariant says and a chain cannot.
+    // Tried as a chain: that each step of a signed `sum` fits did not close. The loop has it from the number of runs.
     for (column, run) in runs.iter().enumerate() {
         sum += run_part(weights, posting, column, *run);
     }

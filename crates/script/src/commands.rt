@@ -13,7 +13,7 @@ use std::error::Error;
 use std::fmt;
 use weighting::points::Point;
 
-#[derive(Clone, Copy)]
+#[derive(Clone, Copy, PartialEq, Eq, Debug)]
 pub enum Command {
     Call(Call),
     // What a point's buses weigh, in the base case or under a constraint.

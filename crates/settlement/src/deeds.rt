@@ -6,7 +6,7 @@ use pricing::origins::Origin;
 use refusals::Refusal;
 use weighting::points::Point;
 
-#[derive(Clone, Copy)]
+#[derive(Clone, Copy, PartialEq, Eq, Debug)]
 pub enum Deed<'a> {
     // A call on the book.
     Call(Call),

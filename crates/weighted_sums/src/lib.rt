@@ -14,7 +14,7 @@ pub fn weighted_sum<P: Posting>(weights: &Weights, posting: &P, column: usize) -
     ensures bound { Within most_weighted result }
 {
     let mut sum = 0;
-    // No chain: `sum` asks that each signed step fits, which the loop's invariant says and a chain cannot.
+    // Tried as a chain: that each step of a signed `sum` fits did not close. The loop has it from the total.
     for (bus, weight) in weights.weights.iter().enumerate() {
         sum += i64::from(*weight) * i64::from(posting.number(bus, column));
     }

@@ -137,6 +137,7 @@ fn live_buses(case: &Case, members: &[BusSet; 156], hub_bus: u8) -> u32
 pub fn members_of(book: &Book) -> [BusSet; 156]
     ensures { MembersOf (entries book.now) result }
 {
+    // Each bus goes to the row of its hub bus, so the rows are filled and not collected.
     let mut all = [[0u64; 4]; 156];
     for (bus, record) in book.buses().enumerate() {
         let k = usize::from(record.hub_bus);

@@ -47,6 +47,7 @@ fn example_book() -> Book {
 
 // The shift factors of the example hour in column 0, and one for bus 10.
 fn example_factors() -> [i32; 256] {
+    // Six of 256 entries, so they are written by place.
     let mut factors = [0; 256];
     factors[0] = 400_000;
     factors[1] = 100_000;
@@ -107,6 +108,7 @@ impl Rows<'_> {
 
     // Run 0 at the first price and run 1 at the second, for the one live bus.
     fn real_time(&self, row: &str, book: &Book, first: i32, second: i32) -> io::Result<()> {
+        // Two of 512 entries, so they are written by place.
         let mut prices = [0; 512];
         prices[0] = first;
         prices[256] = second;

@@ -74,6 +74,7 @@ fn hour_n() -> [Call; 14]
 fn factors_n() -> [i32; 8192]
     ensures { result ≡ factors_n }
 {
+    // Five of 8,192 entries, so they are written by place.
     let mut factors = [0; 8192];
     factors[0] = 400_000;
     factors[1] = 100_000;
