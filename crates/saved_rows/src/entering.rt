@@ -9,7 +9,7 @@ ghost use Rattle.saved_rows.specs.Entering.{enter, Enters, refused_at, bus_given
 
 use crate::row::{BusRow, Row};
 use crate::stage::Stage;
-use bounds::{is_within, up_to};
+use bounds::{up_to, within};
 use faults::{Spot, Why, at};
 use hour::book::Book;
 use hour::limits::{
@@ -29,7 +29,7 @@ fn limited(field: u64, value: i64, last: u16, refusal: Refusal) -> Result<u16, S
 fn near(field: u64, value: i64, most: u64, refusal: Refusal) -> Result<(), Spot>
     ensures { MatchResult result (λ _. within value most ≡ true) (λ e. (within value most ≡ false) × (e ≡ refused_at field refusal)) }
 {
-    at(field, is_within(value, most).then_some(()).ok_or(refusal))
+    at(field, within(value, most, refusal))
 }
 
 impl BusRow {

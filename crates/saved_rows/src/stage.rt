@@ -19,7 +19,7 @@ pub enum Kind {
 // How far a text is read: the kind of the line just read, and none before the first.
 #[derive(Clone, Copy, PartialEq, Eq, Debug, Default)]
 pub struct Stage {
-    last: Option<Kind>,
+    pub last: Option<Kind>,
 }
 
 impl Stage {
