@@ -1,6 +1,6 @@
 // A line entered into a book.
 ghost use Rattle.std.specs.Prelude.{◌≡◌, ℕ, ◌≤◌, true, false, pos, is_ok, Some, None, Ok, Err, MatchResult};
-ghost use Rattle.bounds.specs.Bounds.{up_to, within};
+ghost use Rattle.bounds.specs.Bounds.{UpTo, within};
 ghost use Rattle.hour.specs.Hour.{entries};
 ghost use Rattle.saved_rows.specs.Order.{eq_z};
 ghost use Rattle.saved_rows.specs.Running.{Takes, step, place};
@@ -20,7 +20,7 @@ use refusals::Refusal;
 
 // The value of a field as a number from 0 to `last`, or the refusal at that field.
 fn limited(field: u64, value: i64, last: u16, refusal: Refusal) -> Result<u16, Spot>
-    ensures { MatchResult result (λ n. (up_to value last ≡ Some n) × (n ≤ last)) (λ e. (up_to value last ≡ None) × (e ≡ refused_at field refusal)) }
+    ensures { UpTo value last (refused_at field refusal) result }
 {
     at(field, up_to(value, last, refusal))
 }
