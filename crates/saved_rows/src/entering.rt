@@ -110,10 +110,7 @@ impl Row {
                 )
             }
             Row::End { count } if u64::try_from(count) == Ok(before) => Ok(()),
-            Row::End { .. } => Err(Spot {
-                why: Why::Ending,
-                field: 0,
-            }),
+            Row::End { .. } => Err(Spot::from(Why::Ending)),
         }
     }
 }

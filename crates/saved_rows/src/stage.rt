@@ -60,9 +60,6 @@ impl Stage {
         } else {
             self.after(row.kind())
         };
-        next.ok_or(Spot {
-            why: Why::Order,
-            field: 0,
-        })
+        next.ok_or(Spot::from(Why::Order))
     }
 }
