@@ -1,14 +1,14 @@
 // Numbers held to their limits. Arguments are wide, so that any number a caller has is granted or refused.
 #![tactic(auto)]
 
-ghost use Rattle.std.specs.Prelude.{◌≡◌, ◌≤◌, Some, None, MatchResult};
-ghost use Rattle.bounds.specs.Bounds.{up_to, within};
+ghost use Rattle.std.specs.Prelude.{◌≡◌, true, false, MatchResult};
+ghost use Rattle.bounds.specs.Bounds.{UpTo, within};
 
 use refusals::Refusal;
 
 // The value as a number from 0 to `last`, or the refusal.
 pub fn up_to(value: i64, last: u16, refusal: Refusal) -> Result<u16, Refusal>
-    ensures { MatchResult result (λ n. (up_to value last ≡ Some n) × (n ≤ last)) (λ e. (up_to value last ≡ None) × (e ≡ refusal)) }
+    ensures { UpTo value last refusal result }
 {
     u16::try_from(value)
         .ok()
@@ -16,9 +16,9 @@ pub fn up_to(value: i64, last: u16, refusal: Refusal) -> Result<u16, Refusal>
         .ok_or(refusal)
 }
 
-// Whether the value is at most `most` away from 0.
-pub fn is_within(value: i64, most: u64) -> bool
-    ensures { result ≡ within value most }
+// The value is at most `most` away from 0, or the refusal.
+pub fn within(value: i64, most: u64, refusal: Refusal) -> Result<(), Refusal>
+    ensures { MatchResult result (λ _. within value most ≡ true) (λ e. (within value most ≡ false) × (e ≡ refusal)) }
 {
-    value.unsigned_abs() <= most
+    (value.unsigned_abs() <= most).then_some(()).ok_or(refusal)
 }

@@ -1,5 +1,7 @@
 -- The fields of a line, taken one by one.
-use Rattle.std.proofs.Common.{◌≡◌, ℕ, List, [], ◌∷◌, Some, None, Ok, Err, Option, Result, sym, refl, ap, ◌∙◌, subst, arith, Bor, MatchOption}
+use Rattle.std.proofs.Common.{◌≡◌, ℕ, Bool, true, false, not, List, [], ◌∷◌, Some, None, Ok, Err, Option, Result, is_some, sym, refl, ap, ◌∙◌, subst, arith, Bor, MatchOption, MatchResult}
+use Rattle.std.specs.Bool.{then_some}
+use Rattle.std.specs.Option.{ok_or}
 use Rattle.faults.specs.declared.Spot.{Spot}
 use Rattle.cuts.specs.Cuts.{split, front, after, split_rest}
 use Rattle.cuts.specs.Fields.{comma, form_at, letter_of, holding, taking, end, left_in, Stuck, Further, ReadAs, ReadLine}
@@ -12,6 +14,17 @@ left_cut t p (Some u) f h = split_front comma t ∙ ap (λ x. front comma t ∷ 
 
 pub further_some : (o : Option (Bor (List ℕ))) (t : Bor (List ℕ)) → o ≡ Some t → Further (left_in o)
 further_some o t e = subst (λ x. Further (left_in x)) (sym e) (subst Further (sym (split_front comma t.now)) tt)
+
+-- the end is a fault where something is left
+pub none_left : (o : Option (Bor (List ℕ))) (b : Bool) (field : ℕ) (s : Spot) (r : Result (Unit {0}) Spot) → is_some o ≡ not b → s ≡ form_at field → r ≡ ok_or (then_some b (tt {0})) s
+    → MatchResult r (λ _. left_in o ≡ []) (λ e. (e ≡ form_at field) × Further (left_in o))
+none_left o b field s r some at is = subst (λ r. MatchResult r (λ _. left_in o ≡ []) (λ e. (e ≡ form_at field) × Further (left_in o))) (sym is) (by o b some)
+  where
+    by : (o : Option (Bor (List ℕ))) (b : Bool) → is_some o ≡ not b → MatchResult (ok_or (then_some b (tt {0})) s) (λ _. left_in o ≡ []) (λ e. (e ≡ form_at field) × Further (left_in o))
+    by None true some = refl
+    by None false some = absurd (grind arith)
+    by (Some t) true some = absurd (grind arith)
+    by (Some t) false some = (at, further_some (Some t) t refl)
 
 -- one field more, or none
 module _ {X E R : Type 0} (read : List ℕ → Result X E) (f : ℕ) (k : X → List (List ℕ) → Result R Spot) where

@@ -2,11 +2,11 @@
 use Rattle.std.specs.Prelude.{◌≡◌, ℕ, Bool, true, false, cond, List, [], ◌∷◌, ℤ, Some, None, Ok, Err, Option, Result, MatchResult, ◌==◌}
 use Rattle.std.specs.Borrow.{Bor}
 use Rattle.decimals.specs.Decimals.{decimal_of}
-use Rattle.faults.specs.Faults.{spot}
+use Rattle.faults.specs.Faults.{malformed, spot}
+use Rattle.faults.specs.declared.Malformed.{Malformed}
 use Rattle.faults.specs.declared.Spot.{Spot}
 use Rattle.faults.specs.declared.Why.TheVariants.{Form}
 use Rattle.cuts.specs.declared.fields.Fields.{Fields}
-use Rattle.cuts.specs.declared.fields.NotStatus.{NotStatus}
 use Rattle.cuts.specs.Cuts.{split}
 
 -- byte 44
@@ -17,14 +17,11 @@ comma = 44
 abbrev pub form_at : ℕ → Spot
 form_at field = spot Form field
 
-abbrev pub not_status : NotStatus
-not_status = record {}
-
 -- a status is the byte 48 or 49, which is 0 or 1
-abbrev pub status_of : List ℕ → Result Bool NotStatus
-status_of [] = Err not_status
-status_of (b ∷ []) = cond (b == 48) (Ok false) (cond (b == 49) (Ok true) (Err not_status))
-status_of (b ∷ c ∷ bs) = Err not_status
+abbrev pub status_of : List ℕ → Result Bool Malformed
+status_of [] = Err malformed
+status_of (b ∷ []) = cond (b == 48) (Ok false) (cond (b == 49) (Ok true) (Err malformed))
+status_of (b ∷ c ∷ bs) = Err malformed
 
 -- the only byte of a piece
 abbrev pub letter_of : List ℕ → Option ℕ

@@ -9,19 +9,7 @@ ghost use Rattle.cuts.specs.Fields.{comma, form_at, status_of, letter_of, left, 
 
 use crate::pieces::cut;
 use decimals::read_decimal;
-use faults::{Spot, Why, at};
-
-// The field is neither `0` nor `1`.
-#[derive(Clone, Copy, PartialEq, Eq, Debug)]
-pub struct NotStatus;
-
-impl From<NotStatus> for Why {
-    ghost from_gives = { λ _ r. r ≡ Form };
-
-    fn from(_e: NotStatus) -> Why {
-        Why::Form
-    }
-}
+use faults::{Malformed, Spot, Why, at};
 
 // A wrong, missing or surplus field.
 pub fn malformed(field: u64) -> Spot
@@ -34,13 +22,13 @@ pub fn malformed(field: u64) -> Spot
 }
 
 // Whether a status field says live.
-pub fn read_status(field: &[u8]) -> Result<bool, NotStatus>
+pub fn read_status(field: &[u8]) -> Result<bool, Malformed>
     ensures { result ≡ status_of field.now }
 {
     match field {
         [b'0'] => Ok(false),
         [b'1'] => Ok(true),
-        _ => Err(NotStatus),
+        _ => Err(Malformed),
     }
 }
 
@@ -101,11 +89,7 @@ impl<'a> Fields<'a> {
     pub fn end(self, field: u64) -> Result<(), Spot>
         ensures { MatchResult result (λ _. left self.entry ≡ []) (λ e. (e ≡ form_at field) × Further (left self.entry)) }
     {
-        // Here `None` is what is wanted, and no combinator turns it into an `Ok` as plainly.
-        match self.rest {
-            None => Ok(()),
-            Some(_) => Err(malformed(field)),
-        }
+        self.rest.is_none().then_some(()).ok_or(malformed(field))
     }
 }
 

@@ -9,14 +9,15 @@ use Rattle.std.specs.Int.{w64, cast_signed}
 use Rattle.std.proofs.lemmas.Bool.{cond-true, cond-false, cases_Bool}
 use Rattle.std.proofs.lemmas.Bool.Decides.{nat_tests}
 use Rattle.std.proofs.lemmas.List.{at_drop_more}
-use Rattle.decimals.specs.declared.NotDecimal.{NotDecimal}
-use Rattle.decimals.specs.Decimals.{not_decimal, digits_on, shaped, natural_of, negative, positive, decimal_of}
+use Rattle.faults.specs.declared.Malformed.{Malformed}
+use Rattle.faults.specs.Faults.{malformed}
+use Rattle.decimals.specs.Decimals.{digits_on, shaped, natural_of, negative, positive, decimal_of}
 
 pub natural_shaped : (s : List ℕ) → shaped s ≡ true → natural_of s ≡ digits_on 0 s
 unfolding natural_of
 natural_shaped s e = cond-true _ _ _ e
 
-pub natural_other : (s : List ℕ) → shaped s ≡ false → natural_of s ≡ Err not_decimal
+pub natural_other : (s : List ℕ) → shaped s ≡ false → natural_of s ≡ Err malformed
 unfolding natural_of
 natural_other s e = cond-false _ _ _ e
 
@@ -36,7 +37,7 @@ digit_lt c e = grind (arith, nat_tests)
 pub digits_more : (n : ℕ) (s : List ℕ) (i : ℕ) → i < length s → is_ascii_digit (get_or s i 0) ≡ true → digits_on n (drop i s) ≡ digits_on (n * 10 + (get_or s i 0 - 48)) (drop (i + 1) s)
 digits_more n s i h d = at_drop_more (digits_on n) s i 0 h ∙ cond-true _ _ _ d
 
-pub digits_stop : (n : ℕ) (s : List ℕ) (i : ℕ) → i < length s → is_ascii_digit (get_or s i 0) ≡ false → digits_on n (drop i s) ≡ Err not_decimal
+pub digits_stop : (n : ℕ) (s : List ℕ) (i : ℕ) → i < length s → is_ascii_digit (get_or s i 0) ≡ false → digits_on n (drop i s) ≡ Err malformed
 digits_stop n s i h d = at_drop_more (digits_on n) s i 0 h ∙ cond-false _ _ _ d
 
 -- what is read is small
@@ -49,7 +50,7 @@ digits_lt n k (c ∷ cs) m h e =
     let r = digits_lt (n * 10 + (c - 48)) (suc k) cs m low (sym (cond-true _ _ _ d) ∙ e) in
     let q : suc k + length cs ≡ k + suc (length cs) = omega arith in
     subst (λ x. m < 10 ^ x) q r)
-    (λ (d : is_ascii_digit c ≡ false). let z : ◌≡◌ {A = Result ℕ NotDecimal} (Err not_decimal) (Ok m) = sym (cond-false _ _ _ d) ∙ e in let w : ◌≡◌ {A = ℕ} 0 1 = cc in absurd (omega arith))
+    (λ (d : is_ascii_digit c ≡ false). let z : ◌≡◌ {A = Result ℕ Malformed} (Err malformed) (Ok m) = sym (cond-false _ _ _ d) ∙ e in let w : ◌≡◌ {A = ℕ} 0 1 = cc in absurd (omega arith))
     (cases_Bool (is_ascii_digit c))
 
 pub natural_lt : (s : List ℕ) (n : ℕ) → natural_of s ≡ Ok n → n < 10 ^ 15
@@ -60,7 +61,7 @@ natural_lt s n e =
     let r = digits_lt 0 0 s n (lit< tt) (sym (cond-true _ _ _ d) ∙ e) in
     let k : 0 + length s ≤ 15 = grind (arith, nat_tests) in
     omega (arith, r, pow10_le (0 + length s) k))
-    (λ (d : shaped s ≡ false). let z : ◌≡◌ {A = Result ℕ NotDecimal} (Err not_decimal) (Ok n) = sym (cond-false _ _ _ d) ∙ e in let w : ◌≡◌ {A = ℕ} 0 1 = cc in absurd (omega arith))
+    (λ (d : shaped s ≡ false). let z : ◌≡◌ {A = Result ℕ Malformed} (Err malformed) (Ok n) = sym (cond-false _ _ _ d) ∙ e in let w : ◌≡◌ {A = ℕ} 0 1 = cc in absurd (omega arith))
     (cases_Bool (shaped s))
 
 pub decimal_minus : (s : List ℕ) → eqb (get_or s 0 0) 45 ≡ true → decimal_of s ≡ negative (natural_of (drop 1 s))
@@ -71,7 +72,7 @@ pub decimal_plain : (s : List ℕ) → eqb (get_or s 0 0) 45 ≡ false → decim
 unfolding decimal_of
 decimal_plain s e = cond-false _ _ _ e
 
-pub negative_some : (r : Result ℕ NotDecimal) (n : ℕ) (z : ℤ) → Ok n ≡ r → (n ≡ 0 → ⊥) → z +ℤ pos n ≡ pos 0 → Ok z ≡ negative r
+pub negative_some : (r : Result ℕ Malformed) (n : ℕ) (z : ℤ) → Ok n ≡ r → (n ≡ 0 → ⊥) → z +ℤ pos n ≡ pos 0 → Ok z ≡ negative r
 negative_some r zero z q f e = absurd (f refl)
 negative_some r (suc n) z q f e = let w : z ≡ negsuc n = omega (arith, ints) in ap Ok w ∙ ap negative q
 
@@ -80,7 +81,7 @@ pub signed_pos : (n : ℕ) → n < 10 ^ 15 → cast_signed w64 n ≡ pos n
 signed_pos n h = to_z_pos w64 n (omega arith)
 
 -- a number that was read as it stands
-pub positive_map : (r : Result ℕ NotDecimal) (t : Result ℤ NotDecimal) → IfOk r (λ n. n < 10 ^ 15) → MatchResult r (λ n. t ≡ Ok (cast_signed w64 n)) (λ e. t ≡ Err e) → t ≡ positive r
+pub positive_map : (r : Result ℕ Malformed) (t : Result ℤ Malformed) → IfOk r (λ n. n < 10 ^ 15) → MatchResult r (λ n. t ≡ Ok (cast_signed w64 n)) (λ e. t ≡ Err e) → t ≡ positive r
 positive_map (Ok n) t h e = e ∙ ap Ok (signed_pos n h)
 positive_map (Err d) t h e = e
 

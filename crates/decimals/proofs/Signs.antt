@@ -7,8 +7,9 @@ use Rattle.std.proofs.lemmas.Str.Parse.{IsNumeralModel, numerals_by_fold, not_in
 use Rattle.std.proofs.lemmas.Fmt.{decimal_nonempty, length-decimal-le, first_decimal, decimal_digit, digits_decimal, digits_value-decimal, decimal-digits_value}
 use Rattle.std.proofs.lemmas.Bool.{eq-eqb, ne_eqb, cond-true, cond-false, cases_Bool, cases_eq}
 use Rattle.std.proofs.lemmas.Bool.Decides.{nat_tests}
-use Rattle.decimals.specs.declared.NotDecimal.{NotDecimal}
-use Rattle.decimals.specs.Decimals.{not_decimal, digits_on, shaped, natural_of, negative, positive, decimal_of}
+use Rattle.faults.specs.declared.Malformed.{Malformed}
+use Rattle.faults.specs.Faults.{malformed}
+use Rattle.decimals.specs.Decimals.{digits_on, shaped, natural_of, negative, positive, decimal_of}
 use Rattle.decimals.specs.Canonical.{FewDigits}
 use Rattle.decimals.proofs.Naturals.{natural_lt, decimal_minus, decimal_plain}
 
@@ -33,7 +34,7 @@ from_digits : (n : ℕ) (ds : List ℕ) (m : ℕ) → digits_on n ds ≡ Ok m �
 from_digits n [] m e = (refl, cc)
 from_digits n (c ∷ cs) m e = ⊎_elim
     (λ (d : is_ascii_digit c ≡ true). let r = from_digits (n * 10 + (c - 48)) cs m (sym (cond-true _ _ _ d) ∙ e) in (ap (λ b. b && all_ascii_digits cs) d ∙ r.0, r.1))
-    (λ (d : is_ascii_digit c ≡ false). never m not_decimal (sym e ∙ cond-false _ _ _ d))
+    (λ (d : is_ascii_digit c ≡ false). never m malformed (sym e ∙ cond-false _ _ _ d))
     (cases_Bool (is_ascii_digit c))
 
 shaped_decimal : (n : ℕ) → n < 10 ^ 15 → shaped (decimal n) ≡ true
@@ -61,7 +62,7 @@ decimal_natural s n e = ⊎_elim
     let some : 0 < length s = grind (arith, nat_tests) in
     let v : read_on 0 s < 2 ^ 64 = omega (arith, r.1) in
     sym (decimal-digits_value own s r.0 some (λ z. grind (arith, nat_tests)) v) ∙ ap decimal r.1)
-    (λ (d : shaped s ≡ false). never n not_decimal (sym e ∙ cond-false _ _ _ d))
+    (λ (d : shaped s ≡ false). never n malformed (sym e ∙ cond-false _ _ _ d))
     (cases_Bool (shaped s))
 
 -- no numeral begins with a minus
@@ -72,12 +73,12 @@ pub decimal_signed : (z : ℤ) → FewDigits z → decimal_of (signed z) ≡ Ok 
 decimal_signed (pos n) h = decimal_plain (decimal n) (no_minus n h) ∙ ap positive (natural_decimal n h)
 decimal_signed (negsuc n) h = decimal_minus (45 ∷ decimal (suc n)) (eq-eqb 45 45 refl) ∙ ap negative (natural_decimal (suc n) h)
 
-from_negative : (s : List ℕ) (r : Result ℕ NotDecimal) (z : ℤ) → natural_of s ≡ r → negative r ≡ Ok z → (45 ∷ s ≡ signed z) × FewDigits z
+from_negative : (s : List ℕ) (r : Result ℕ Malformed) (z : ℤ) → natural_of s ≡ r → negative r ≡ Ok z → (45 ∷ s ≡ signed z) × FewDigits z
 from_negative s (Err e) z q p = never z e (sym p)
-from_negative s (Ok zero) z q p = never z not_decimal (sym p)
+from_negative s (Ok zero) z q p = never z malformed (sym p)
 from_negative s (Ok (suc n)) z q p = let w : negsuc n ≡ z = cc in subst (λ x. (45 ∷ s ≡ signed x) × FewDigits x) w (ap (λ l. 45 ∷ l) (decimal_natural s (suc n) q), natural_lt s (suc n) q)
 
-from_positive : (s : List ℕ) (r : Result ℕ NotDecimal) (z : ℤ) → natural_of s ≡ r → positive r ≡ Ok z → (s ≡ signed z) × FewDigits z
+from_positive : (s : List ℕ) (r : Result ℕ Malformed) (z : ℤ) → natural_of s ≡ r → positive r ≡ Ok z → (s ≡ signed z) × FewDigits z
 from_positive s (Err e) z q p = never z e (sym p)
 from_positive s (Ok n) z q p = let w : pos n ≡ z = cc in subst (λ x. (s ≡ signed x) × FewDigits x) w (decimal_natural s n q, natural_lt s n q)
 
@@ -89,8 +90,8 @@ signed_decimal (c ∷ cs) z e = ⊎_elim
     (cases_eq c 45)
 
 -- what a reading gives, said of the field
-pub accepted : (s : List ℕ) (r : Result ℤ NotDecimal) → r ≡ decimal_of s → (z : ℤ) → FewDigits z → s ≡ signed z → r ≡ Ok z
+pub accepted : (s : List ℕ) (r : Result ℤ Malformed) → r ≡ decimal_of s → (z : ℤ) → FewDigits z → s ≡ signed z → r ≡ Ok z
 accepted s r e z h q = e ∙ ap decimal_of q ∙ decimal_signed z h
 
-pub only_canonical : (s : List ℕ) (r : Result ℤ NotDecimal) → r ≡ decimal_of s → (z : ℤ) → r ≡ Ok z → (s ≡ signed z) × FewDigits z
+pub only_canonical : (s : List ℕ) (r : Result ℤ Malformed) → r ≡ decimal_of s → (z : ℤ) → r ≡ Ok z → (s ≡ signed z) × FewDigits z
 only_canonical s r e z q = signed_decimal s z (sym e ∙ q)

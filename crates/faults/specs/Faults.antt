@@ -11,6 +11,7 @@ use Rattle.faults.specs.declared.Layer.{Layer}
 use Rattle.faults.specs.declared.Layer.TheVariants as layer
 use Rattle.faults.specs.declared.Spot.{Spot}
 use Rattle.faults.specs.declared.Fault.{Fault}
+use Rattle.faults.specs.declared.Malformed.{Malformed}
 
 abbrev pub fault_number : Why → ℕ
 fault_number Short = number BufferShort
@@ -52,6 +53,9 @@ abbrev pub letter_of : Layer → ℕ
 letter_of layer.Text = 84
 letter_of layer.Book = 66
 letter_of layer.Posting = 70
+
+abbrev pub malformed : Malformed
+malformed = record {}
 
 -- a fault at a field
 abbrev pub spot : Why → ℕ → Spot

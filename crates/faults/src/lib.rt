@@ -2,8 +2,8 @@
 #![tactic(auto)]
 
 ghost use Rattle.std.specs.Prelude.{◌≡◌, IsErrAnd, Ok, MatchResult};
-ghost use Rattle.faults.specs.declared.Why.TheVariants.{Value};
-ghost use Rattle.faults.specs.Faults.{fault_number, refusal_of, inner_number, layer_of, letter_of, in_line};
+ghost use Rattle.faults.specs.declared.Why.TheVariants.{Form, Value};
+ghost use Rattle.faults.specs.Faults.{fault_number, refusal_of, inner_number, layer_of, letter_of, spot, in_line};
 
 use refusals::Refusal;
 
@@ -20,6 +20,10 @@ pub enum Why {
     // The last line is missing, counts wrong, or is followed by more.
     Ending,
 }
+
+// A field that has not the form of what it should write.
+#[derive(Clone, Copy, PartialEq, Eq, Debug)]
+pub struct Malformed;
 
 // The text that is read.
 #[derive(Clone, Copy, PartialEq, Eq, Debug)]
@@ -56,6 +60,24 @@ impl From<Refusal> for Why {
 
     fn from(e: Refusal) -> Why {
         Why::Value(e)
+    }
+}
+
+// In a text it is a fault of form.
+impl From<Malformed> for Why {
+    ghost from_gives = { λ _ r. r ≡ Form };
+
+    fn from(_e: Malformed) -> Why {
+        Why::Form
+    }
+}
+
+// A fault of a line as a whole.
+impl From<Why> for Spot {
+    ghost from_gives = { λ why r. r ≡ spot why 0 };
+
+    fn from(why: Why) -> Spot {
+        Spot { why, field: 0 }
     }
 }
 

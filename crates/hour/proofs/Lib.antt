@@ -2,6 +2,7 @@ pub mod Tables
 pub mod Live
 pub mod Replays
 pub mod Outcomes
+pub mod Ranges
 pub mod Frames
 pub mod Commuting
 pub mod Marks

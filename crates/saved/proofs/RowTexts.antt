@@ -6,12 +6,13 @@ use Rattle.std.proofs.lemmas.Str.Parse.{not_in_digits}
 use Rattle.std.proofs.lemmas.Fmt.{digits_decimal}
 use Rattle.std.proofs.ByRecursion.{All-from_get_or, All-append}
 use Rattle.std.proofs.lemmas.Bool.{cond-true, cond-false, cases_Bool, eqb-true}
+use Rattle.faults.specs.Faults.{malformed}
 use Rattle.faults.specs.declared.Spot.{Spot}
 use Rattle.decimals.specs.Decimals.{decimal_of}
 use Rattle.decimals.specs.Canonical.{FewDigits}
 use Rattle.decimals.proofs.Signs.{own, decimal_signed, signed_decimal}
 use Rattle.cuts.specs.Cuts.{split, join}
-use Rattle.cuts.specs.Fields.{comma, form_at, not_status, status_of, number, status}
+use Rattle.cuts.specs.Fields.{comma, form_at, status_of, number, status}
 use Rattle.cuts.proofs.Cutting.{Plain, split_join, join_split}
 use Rattle.cuts.proofs.Plains.{signed_plain}
 use Rattle.cuts.proofs.Taking.{taken_field, ended}
@@ -105,13 +106,13 @@ number_inv f k ps r e =
     (t.0, t.2, t.3 ∙ ap (λ p. p ∷ t.2) d.0, d.1, t.5)
 
 text_status : (p : List ℕ) (b : Bool) → status_of p ≡ Ok b → p ≡ status_text b
-text_status [] b e = never b not_status e
-text_status (c ∷ d ∷ ds) b e = never b not_status e
+text_status [] b e = never b malformed e
+text_status (c ∷ d ∷ ds) b e = never b malformed e
 text_status (c ∷ []) b e = ⊎_elim
     (λ (d : eqb c 48 ≡ true). let z : Ok false ≡ Ok b = sym (cond-true _ _ _ d) ∙ e in let q : false ≡ b = cc in ap (λ n. n ∷ []) (eqb-true c 48 d) ∙ ap status_text q)
     (λ (d : eqb c 48 ≡ false). ⊎_elim
     (λ (g : eqb c 49 ≡ true). let z : Ok true ≡ Ok b = sym (cond-true _ _ _ g) ∙ sym (cond-false _ _ _ d) ∙ e in let q : true ≡ b = cc in ap (λ n. n ∷ []) (eqb-true c 49 g) ∙ ap status_text q)
-    (λ (g : eqb c 49 ≡ false). never b not_status (sym (cond-false _ _ _ g) ∙ sym (cond-false _ _ _ d) ∙ e))
+    (λ (g : eqb c 49 ≡ false). never b malformed (sym (cond-false _ _ _ g) ∙ sym (cond-false _ _ _ d) ∙ e))
     (cases_Bool (eqb c 49)))
     (cases_Bool (eqb c 48))
 

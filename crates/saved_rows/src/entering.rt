@@ -1,6 +1,6 @@
 // A line entered into a book.
 ghost use Rattle.std.specs.Prelude.{◌≡◌, ℕ, ◌≤◌, true, false, pos, is_ok, Some, None, Ok, Err, MatchResult};
-ghost use Rattle.bounds.specs.Bounds.{up_to, within};
+ghost use Rattle.bounds.specs.Bounds.{UpTo, within};
 ghost use Rattle.hour.specs.Hour.{entries};
 ghost use Rattle.saved_rows.specs.Order.{eq_z};
 ghost use Rattle.saved_rows.specs.Running.{Takes, step, place};
@@ -9,7 +9,7 @@ ghost use Rattle.saved_rows.specs.Entering.{enter, Enters, refused_at, bus_given
 
 use crate::row::{BusRow, Row};
 use crate::stage::Stage;
-use bounds::{is_within, up_to};
+use bounds::{up_to, within};
 use faults::{Spot, Why, at};
 use hour::book::Book;
 use hour::limits::{
@@ -20,7 +20,7 @@ use refusals::Refusal;
 
 // The value of a field as a number from 0 to `last`, or the refusal at that field.
 fn limited(field: u64, value: i64, last: u16, refusal: Refusal) -> Result<u16, Spot>
-    ensures { MatchResult result (λ n. (up_to value last ≡ Some n) × (n ≤ last)) (λ e. (up_to value last ≡ None) × (e ≡ refused_at field refusal)) }
+    ensures { UpTo value last (refused_at field refusal) result }
 {
     at(field, up_to(value, last, refusal))
 }
@@ -29,7 +29,7 @@ fn limited(field: u64, value: i64, last: u16, refusal: Refusal) -> Result<u16, S
 fn near(field: u64, value: i64, most: u64, refusal: Refusal) -> Result<(), Spot>
     ensures { MatchResult result (λ _. within value most ≡ true) (λ e. (within value most ≡ false) × (e ≡ refused_at field refusal)) }
 {
-    at(field, is_within(value, most).then_some(()).ok_or(refusal))
+    at(field, within(value, most, refusal))
 }
 
 impl BusRow {
@@ -110,10 +110,7 @@ impl Row {
                 )
             }
             Row::End { count } if u64::try_from(count) == Ok(before) => Ok(()),
-            Row::End { .. } => Err(Spot {
-                why: Why::Ending,
-                field: 0,
-            }),
+            Row::End { .. } => Err(Spot::from(Why::Ending)),
         }
     }
 }

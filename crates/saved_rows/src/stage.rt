@@ -19,7 +19,7 @@ pub enum Kind {
 // How far a text is read: the kind of the line just read, and none before the first.
 #[derive(Clone, Copy, PartialEq, Eq, Debug, Default)]
 pub struct Stage {
-    last: Option<Kind>,
+    pub last: Option<Kind>,
 }
 
 impl Stage {
@@ -60,9 +60,6 @@ impl Stage {
         } else {
             self.after(row.kind())
         };
-        next.ok_or(Spot {
-            why: Why::Order,
-            field: 0,
-        })
+        next.ok_or(Spot::from(Why::Order))
     }
 }

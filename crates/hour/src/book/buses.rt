@@ -1,6 +1,6 @@
 // The calls that change one bus record: place, status and load.
-ghost use Rattle.std.specs.Prelude.{◌≡◌, ℕ, ◌<◌, ◌≤◌, true, Some, None, MatchResult, slice_set};
-ghost use Rattle.bounds.specs.Bounds.{up_to};
+ghost use Rattle.std.specs.Prelude.{◌≡◌, ℕ, ◌<◌, true, slice_set};
+ghost use Rattle.bounds.specs.Bounds.{UpTo};
 ghost use Rattle.hour.specs.Sound.{FewPerHubBus, bus_sound, hub_bus_size};
 ghost use Rattle.hour.specs.Hour.{entries, with_bus, with_standing, OnlyBus};
 ghost use Rattle.hour.specs.Steps.{Did, placed, other_buses, is_full, status_set, load_set, with_status, with_load};
@@ -124,8 +124,9 @@ impl Book {
 // The value as a byte from 0 to `last`, or the refusal.
 pub(super) fn byte_up_to(value: i64, last: u16, refusal: Refusal) -> Result<u8, Refusal>
     requires { last < 256 }
-    ensures { MatchResult result (λ n. (up_to value last ≡ Some n) × (n ≤ last)) (λ e. (up_to value last ≡ None) × (e ≡ refusal)) }
+    ensures { UpTo value last refusal result }
 {
-    // What `up_to` grants is at most `last`, so the cast is proved to lose nothing.
+    // What `up_to` grants is at most `last`, so the cast is proved to lose nothing. An `up_to` over a trait of the widths is no plainer:
+    // a `last` of any width carries no bound, so each width would need a method that tells it.
     up_to(value, last, refusal).map(|n| n as u8)
 }

@@ -8,7 +8,7 @@ use crate::book::Book;
 use crate::book::buses::byte_up_to;
 use crate::limits::{LAST_BUS, LAST_CONSTRAINT, MOST_LAMBDA, MOST_SHADOW_PRICE};
 use crate::records::Constraint;
-use bounds::{is_within, up_to};
+use bounds::{up_to, within};
 use bus_set::{BusSet, marked};
 use refusals::Refusal;
 
@@ -17,9 +17,7 @@ impl Book {
     pub fn set_lambda(&mut self, lambda: i64) -> Result<(), Refusal>
         ensures { Did (lambda_set (entries self.old) lambda) (entries self.old) (entries self.new) result }
     {
-        if !is_within(lambda, MOST_LAMBDA) {
-            return Err(Refusal::LambdaOutside);
-        }
+        within(lambda, MOST_LAMBDA, Refusal::LambdaOutside)?;
         self.lambda = Some(lambda);
         Ok(())
     }
@@ -38,9 +36,7 @@ impl Book {
         ensures { Did (posted (entries self.old) constraint shadow_price) (entries self.old) (entries self.new) result }
     {
         let i = usize::from(up_to(constraint, LAST_CONSTRAINT, Refusal::ConstraintOutside)?);
-        if !is_within(shadow_price, MOST_SHADOW_PRICE) {
-            return Err(Refusal::ShadowPriceOutside);
-        }
+        within(shadow_price, MOST_SHADOW_PRICE, Refusal::ShadowPriceOutside)?;
         let out = out_of(self.constraints[i]);
         self.replace_constraint(i, Some(Constraint { shadow_price, out }));
         Ok(())

@@ -7,7 +7,7 @@ ghost use Rattle.hour.specs.Steps.{Did, other_seconds, entered_run, run_entered,
 use crate::book::Book;
 use crate::limits::{LAST_RUN, MOST_ADDER, MOST_SECONDS};
 use crate::records::Run;
-use bounds::{is_within, up_to};
+use bounds::{up_to, within};
 use refusals::Refusal;
 
 impl Book {
@@ -51,9 +51,8 @@ impl Book {
         if seconds < 1 {
             return Err(Refusal::SecondsOutside);
         }
-        if !is_within(reserve_adder, MOST_ADDER) || !is_within(reliability_adder, MOST_ADDER) {
-            return Err(Refusal::AdderOutside);
-        }
+        within(reserve_adder, MOST_ADDER, Refusal::AdderOutside)?;
+        within(reliability_adder, MOST_ADDER, Refusal::AdderOutside)?;
         let left = MOST_SECONDS - self.other_seconds(i);
         let length = up_to(seconds, left, Refusal::SecondsOutside)?;
         self.replace_run(

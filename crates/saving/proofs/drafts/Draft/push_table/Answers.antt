@@ -2,7 +2,8 @@ use Rattle.std.proofs.Common.{◌≡◌, ℕ, ◌+◌, ◌-◌, [], ◌++◌, le
 use Rattle.std.specs.Slice.Iter.{iter_rest}
 use Rattle.saved_rows.specs.Rows.{indexed}
 use Rattle.saving.proofs.Growing.{grow_none, grow_then}
-use Rattle.saving.proofs.Tables.{left_of, left_first, left_more, next_entry}
+use Rattle.hour.proofs.Ranges.{left_of, left_first, left_more}
+use Rattle.saving.proofs.Tables.{next_entry}
 use Rattle.saving.proofs.drafts.Draft.push_table.Goals as goal
 
 pub loop-k-init : goal.loop-k-init

@@ -3,7 +3,7 @@ use Rattle.std.specs.Slice.Iter.{iter_rest}
 use Rattle.saved_rows.specs.declared.row.Row.{Row}
 use Rattle.saved_rows.specs.Rows.{indexed}
 use Rattle.saving.specs.Growing.{Grows}
-use Rattle.saving.proofs.Tables.{left_of}
+use Rattle.hour.proofs.Ranges.{left_of}
 use Rattle.saving.proofs.drafts.Draft.push_table.Given as goal
 
 -- the lines so far, before those of the entries that are left
