@@ -13,7 +13,8 @@ use refusals::Refusal;
 use weighting::points::{Kind, Point};
 
 impl<const N: usize> Lines<N> {
-    // The line of a point: its fields, and then its price or why there is none.
+    // The line of a point: its fields, and then its price or why there is none. Bytes and no `write!`: that says what it wrote only where
+    // it answers `Ok`, and a page promises it always.
     pub fn push_line(&mut self, point: Point, price: Result<(i64, Origin), Refusal>)
         ensures added { Follows (line point price) self.old.page self.new.page }
         ensures short { length (line point price) ≤ longest_line }
