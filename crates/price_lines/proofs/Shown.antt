@@ -15,6 +15,7 @@ use Rattle.weighting.specs.declared.hubs.Hub.{Hub}
 use Rattle.weighting.specs.declared.hubs.Hub.TheVariants.{North, South, Houston, West, Panhandle, Average}
 use Rattle.weighting.specs.declared.points.Kind.{Kind}
 use Rattle.weighting.specs.declared.points.Kind.TheVariants as kind
+use Rattle.weighting.proofs.SettlementPoints.{number_is, same_hub}
 use Rattle.pricing.specs.Origins.{own_price}
 use Rattle.pricing.specs.Points.{PricedAt, hub_priced}
 use Rattle.page.specs.Copies.{Copies}
@@ -22,23 +23,6 @@ use Rattle.price_lines.specs.Lines.{hubs, hub_point, zone_point, zone_line, has_
 use Rattle.price_lines.specs.Shown.{Entry, entry_line, PlacedIn, Listed, Before, Ascending, Shows}
 use Rattle.std.proofs.lemmas.Grind.{flat_map-append}
 use Rattle.price_lines.proofs.Zones.{some_here, some_where}
-
--- hubs by number
-
-hub_at : ℕ → Hub
-hub_at n = cond (eqb n 1) North (cond (eqb n 2) South (cond (eqb n 3) Houston (cond (eqb n 4) West (cond (eqb n 5) Panhandle Average))))
-
-hub_at_number : (hub : Hub) → hub_at (hub_number hub) ≡ hub
-unfolding hub_at
-hub_at_number North = refl
-hub_at_number South = refl
-hub_at_number Houston = refl
-hub_at_number West = refl
-hub_at_number Panhandle = refl
-hub_at_number Average = refl
-
-same_hub : (a b : Hub) → pos (hub_number a) ≡ pos (hub_number b) → a ≡ b
-same_hub a b e = sym (hub_at_number a) ∙ ap hub_at (cc) ∙ hub_at_number b
 
 has_hub : (hub : Hub) → Has hubs hub
 has_hub North = (0, lit< tt, λ d. refl)
@@ -116,16 +100,13 @@ module _ (price : Meaning → Result ℤ Refusal) where
   zone_entry zone = record { point = zone_point zone; answer = own_price (price (zone_meaning zone)) }
 
   hub_answer : (hub : Hub) → PricedAt price (hub_point hub) (hub_priced price hub)
-  hub_answer hub = (λ other e. ap (hub_priced price) (same_hub hub other e), λ none. absurd (none hub refl))
+  hub_answer hub = (λ other e. ap (hub_priced price) (same_hub hub other (number_is _ _ e)), λ none. absurd (none hub refl))
 
   zone_answer : (zone : ℕ) → 1 ≤ zone → zone ≤ 16 → PricedAt price (zone_point zone) (own_price (price (zone_meaning zone)))
   zone_answer zone low high = (
-    λ other e. ap (λ (n : ℕ). own_price (price (zone_meaning n))) (same_number e),
+    λ other e. ap (λ (n : ℕ). own_price (price (zone_meaning n))) (number_is _ _ e),
     λ none. absurd (none (record { number = zone; within = (low, high) }) refl),
   )
-    where
-      same_number : {a b : ℕ} → pos a ≡ pos b → a ≡ b
-      same_number e = cc
 
   module _ (h : Hour) where
     abbrev all_entries : List Entry

@@ -1,8 +1,8 @@
 // The fields of a price line.
-ghost use Rattle.std.specs.Prelude.{◌≡◌, ◌≤◌, [], ◌∷◌, ◌++◌, length, take, decimal};
+ghost use Rattle.std.specs.Prelude.{◌≡◌, ◌≤◌, [], ◌∷◌, ◌++◌, length, decimal};
 ghost use Rattle.std.specs.Fmt.{signed_decimal};
 ghost use Rattle.refusals.specs.Numbers.{number};
-ghost use Rattle.page.specs.Pages.{written};
+ghost use Rattle.page.specs.Pages.{Follows};
 ghost use Rattle.pricing.specs.Origins.{letter};
 ghost use Rattle.price_lines.specs.Adding.{longest_line};
 ghost use Rattle.price_lines.specs.Lines.{kind_letter, point_fields, price_fields, line};
@@ -13,9 +13,10 @@ use refusals::Refusal;
 use weighting::points::{Kind, Point};
 
 impl<const N: usize> Lines<N> {
-    // The line of a point: its fields, and then its price or why there is none.
+    // The line of a point: its fields, and then its price or why there is none. Bytes and no `write!`: that says what it wrote only where
+    // it answers `Ok`, and a page promises it always.
     pub fn push_line(&mut self, point: Point, price: Result<(i64, Origin), Refusal>)
-        ensures added { written self.new.page ≡ take N (written self.old.page ++ line point price) }
+        ensures added { Follows (line point price) self.old.page self.new.page }
         ensures short { length (line point price) ≤ longest_line }
     {
         self.push_point(point);
@@ -27,7 +28,7 @@ impl<const N: usize> Lines<N> {
     // P, the letter of the kind and the number.
     #[tactic(auto, using(crate::proofs::Lengths::signed_short))]
     fn push_point(&mut self, point: Point)
-        ensures added { written self.new.page ≡ take N (written self.old.page ++ point_fields point) }
+        ensures added { Follows (point_fields point) self.old.page self.new.page }
         ensures short { length (point_fields point) ≤ 24 }
     {
         self.page
@@ -37,7 +38,7 @@ impl<const N: usize> Lines<N> {
 
     // Two fields, whether there is a price or not.
     fn push_price(&mut self, price: Result<(i64, Origin), Refusal>)
-        ensures added { written self.new.page ≡ take N (written self.old.page ++ price_fields price) }
+        ensures added { Follows (price_fields price) self.old.page self.new.page }
         ensures short { length (price_fields price) ≤ 22 }
     {
         match price {
@@ -48,7 +49,7 @@ impl<const N: usize> Lines<N> {
 
     #[tactic(auto, using(crate::proofs::Lengths::cents_short))]
     fn push_cents(&mut self, cents: i64, origin: Origin)
-        ensures added { written self.new.page ≡ take N (written self.old.page ++ (signed_decimal cents ++ (44 ∷ letter origin ∷ []))) }
+        ensures added { Follows (signed_decimal cents ++ (44 ∷ letter origin ∷ [])) self.old.page self.new.page }
         ensures short { length (signed_decimal cents ++ (44 ∷ letter origin ∷ [])) ≤ 22 }
     {
         self.page.push_number(cents);
@@ -59,7 +60,7 @@ impl<const N: usize> Lines<N> {
 
     #[tactic(auto, using(crate::proofs::Lengths::refusal_short))]
     fn push_refusal(&mut self, refusal: Refusal)
-        ensures added { written self.new.page ≡ take N (written self.old.page ++ (82 ∷ 44 ∷ decimal (number refusal))) }
+        ensures added { Follows (82 ∷ 44 ∷ decimal (number refusal)) self.old.page self.new.page }
         ensures short { length (82 ∷ 44 ∷ decimal (number refusal)) ≤ 22 }
     {
         self.page.push_all(b"R,");

@@ -10,8 +10,9 @@ ghost use Rattle.price_lines.specs.Shown.{Shows};
 
 use crate::lines::Lines;
 use hour::book::Book;
+use hour::records::Market;
 use posting::Posting;
-use pricing::day_ahead_market::DayAhead;
+use pricing::markets::InMarket;
 use refusals::Refusal;
 
 mod fields;
@@ -32,7 +33,11 @@ pub fn price_lines<P: Posting>(book: &Book, posting: &P, out: &mut [u8]) -> Resu
 fn composed<'a, P: Posting>(book: &'a Book, posting: &'a P) -> Lines<PAGE>
     ensures { written result.page ≡ price_lines book.now (P.Posting.grid posting.now) }
 {
-    let market = DayAhead { book, posting };
+    let market = InMarket {
+        book,
+        posting,
+        market: Market::DayAhead,
+    };
     let mut lines: Lines<PAGE> = Lines::none();
     lines.push_hubs(&market);
     lines.push_zones(book, &market);

@@ -1,3 +1,4 @@
+pub mod Markets
 pub mod Origins
 pub mod Points
 pub mod Taken

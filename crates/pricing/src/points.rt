@@ -4,11 +4,10 @@ ghost use Rattle.real_time.specs.Prices.{real_time_price};
 ghost use Rattle.pricing.specs.Points.{PricedAt};
 ghost use Rattle.pricing.specs.PointFacts.{DayAheadFactsDecide, RealTimeFactsDecide, PointReferenceStays};
 
-use crate::day_ahead_market::DayAhead;
-use crate::markets::point_price;
+use crate::markets::{InMarket, point_price};
 use crate::origins::Origin;
-use crate::real_time_market::RealTime;
 use hour::book::Book;
+use hour::records::Market;
 use posting::Posting;
 use refusals::Refusal;
 use weighting::points::Point;
@@ -24,7 +23,12 @@ pub fn day_ahead_point<'a, P: Posting>(
     ensures facts { DayAheadFactsDecide point (P.Posting.grid posting.now) book.now result }
     ensures reference { PointReferenceStays point (P.Posting.grid posting.now) book.now result }
 {
-    point_price(&DayAhead { book, posting }, point)
+    let market = InMarket {
+        book,
+        posting,
+        market: Market::DayAhead,
+    };
+    point_price(&market, point)
 }
 
 // The real-time price of a point with its origin. Only the live facts of the weighting that it takes count.
@@ -36,5 +40,10 @@ pub fn real_time_point<'a, P: Posting>(
     ensures value { PricedAt (λ m. real_time_price m (P.Posting.grid posting.now) book.now) point result }
     ensures facts { RealTimeFactsDecide point (P.Posting.grid posting.now) book.now result }
 {
-    point_price(&RealTime { book, posting }, point)
+    let market = InMarket {
+        book,
+        posting,
+        market: Market::RealTime,
+    };
+    point_price(&market, point)
 }

@@ -11,6 +11,7 @@ ghost use Rattle.real_time.specs.Prices.{run_part, hour_sum, cents_of, real_time
 ghost use Rattle.real_time.specs.Laws.{NearestCent, SameFactsSamePrice};
 
 use hour::book::Book;
+use hour::limits::MOST_SECONDS;
 use hour::records::{Market, Run};
 use numbers::half_up;
 use posting::Posting;
@@ -20,8 +21,8 @@ use weighting::cases::Case;
 use weighting::weightings::Weighting;
 use weighting::weights::Weights;
 
-// The seconds of the interval, which the entered runs must fill.
-const INTERVAL: u16 = 900;
+// The seconds of the interval, which the entered runs must fill: the most that they can have together.
+const INTERVAL: u16 = MOST_SECONDS;
 
 // No price is below this many cents.
 const FLOOR: i64 = -25_100;
@@ -38,32 +39,48 @@ fn weighed_run(prices: i64, total: u32, run: Run) -> i128
     (i128::from(prices) + i128::from(total) * adders) * i128::from(run.seconds)
 }
 
-// The part of the run in a column; 0 where it is not entered.
-fn run_part<P: Posting>(weights: &Weights, posting: &P, column: usize, run: Option<Run>) -> i128
-    requires { when_some run_sound run ≡ true }
-    ensures value { result ≡ run_part (weight_in weights.now) (P.Posting.grid posting.now) weights.now.total column run }
-    ensures bound { Within most_part result }
-{
-    run.map_or(
-        0,
-        |run: Run|
-            requires { run_sound run ≡ true }
-        { weighed_run(weighted_sum(weights, posting, column), weights.total, run) },
-    )
+// Weights to be priced in a book's hour, with the posting's numbers as the prices of its runs.
+#[derive(Clone, Copy)]
+struct Pricing<'a, P> {
+    book: &'a Book,
+    weights: &'a Weights,
+    posting: &'a P,
 }
 
-// The parts of all runs.
-fn hour_sum<P: Posting>(book: &Book, weights: &Weights, posting: &P) -> i128
-    ensures value { result ≡ hour_sum (weight_in weights.now) (P.Posting.grid posting.now) weights.now.total (run_at (entries book.now)) }
-    ensures bound { Within most_sum result }
-{
-    let runs = book.runs().as_slice();
-    let mut sum = 0;
-    // Tried as a chain: that each step of a signed `sum` fits did not close. The loop has it from the number of runs.
-    for (column, run) in runs.iter().enumerate() {
-        sum += run_part(weights, posting, column, *run);
+impl<P: Posting> Pricing<'_, P> {
+    // The parts of all runs.
+    fn hour_sum(&self) -> i128
+        ensures value { result ≡ hour_sum (weight_in self.now.weights.now) (P.Posting.grid self.now.posting.now) self.now.weights.now.total (run_at (entries self.now.book.now)) }
+        ensures bound { Within most_sum result }
+    {
+        let runs = self.book.runs().as_slice();
+        let mut sum = 0;
+        // Tried as a chain: that each step of a signed `sum` fits did not close. The loop has it from the number of runs.
+        for (column, run) in runs.iter().enumerate() {
+            sum += self.run_part(column, *run);
+        }
+        sum
     }
-    sum
+
+    // The part of the run in a column; 0 where it is not entered.
+    fn run_part(&self, column: usize, run: Option<Run>) -> i128
+        requires { when_some run_sound run ≡ true }
+        ensures value { result ≡ run_part (weight_in self.now.weights.now) (P.Posting.grid self.now.posting.now) self.now.weights.now.total column run }
+        ensures bound { Within most_part result }
+    {
+        run.map_or(
+            0,
+            |run: Run|
+                requires { run_sound run ≡ true }
+            {
+                weighed_run(
+                    weighted_sum(self.weights, self.posting, column),
+                    self.weights.total,
+                    run,
+                )
+            },
+        )
+    }
 }
 
 // The hour sum over the interval's seconds and the total weight, in cents; none without weight.
@@ -91,6 +108,10 @@ pub fn real_time_price<W: Weighting, P: Posting>(
         return Err(Refusal::SecondsShort);
     }
     let weights = weighting.weigh(&Case::base(book, Market::RealTime));
-    let sum = hour_sum(book, &weights, posting);
-    cents(sum, weights.total).ok_or(Refusal::NoWeight)
+    let pricing = Pricing {
+        book,
+        weights: &weights,
+        posting,
+    };
+    cents(pricing.hour_sum(), weights.total).ok_or(Refusal::NoWeight)
 }

@@ -1,16 +1,15 @@
 -- Any saved text fits its page.
-use Rattle.std.proofs.Common.{◌≡◌, ℕ, zero, suc, ◌+◌, ◌*◌, ◌^◌, ◌<◌, ◌≤◌, Bool, true, false, cond, ◌&&◌, leb, List, [], ◌∷◌, ◌++◌, length, ℤ, pos, negsuc, Some, None, Option, refl, mul-suc, arith}
+use Rattle.std.proofs.Common.{◌≡◌, ℕ, zero, suc, ◌+◌, ◌*◌, ◌^◌, ◌<◌, ◌≤◌, Bool, true, false, cond, leb, List, [], ◌∷◌, ◌++◌, length, ℤ, pos, negsuc, Some, None, Option, refl, mul-suc, arith}
 use Rattle.std.specs.List.{flat_map}
 use Rattle.std.specs.Fmt.{signed_decimal}
 use Rattle.std.proofs.lemmas.Fmt.{length-decimal-le, length_signed_le}
 use Rattle.std.proofs.lemmas.Grind.{flat_map-append}
 use Rattle.std.proofs.lemmas.List.{length-append}
-use Rattle.std.proofs.lemmas.List.Sums.{sum_by-cons}
-use Rattle.std.proofs.lemmas.Bool.{and_parts, and_from, leb-true, le-leb}
+use Rattle.std.proofs.lemmas.Bool.{and_parts, leb-true}
 use Rattle.bus_set.specs.Sets.{member, four_words}
 use Rattle.bounds.specs.Bounds.{within}
 use Rattle.hour.specs.Limits.{most_lambda, most_shadow_price, most_adder}
-use Rattle.hour.specs.Sound.{all_by, when_some, bus_sound, lambda_sound, constraint_sound, run_sound, seconds_of, total_seconds}
+use Rattle.hour.specs.Sound.{all_by, when_some, bus_sound, lambda_sound, constraint_sound, run_sound}
 use Rattle.hour.specs.Hour.{entries}
 use Rattle.hour.specs.declared.records.Bus.{Bus}
 use Rattle.hour.specs.declared.records.Constraint.{Constraint}

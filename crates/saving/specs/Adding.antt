@@ -1,10 +1,10 @@
 -- What is added to a page.
-use Rattle.std.specs.Prelude.{◌≡◌, ℕ, List, [], ◌∷◌, ◌++◌, take, ℤ}
+use Rattle.std.specs.Prelude.{ℕ, List, [], ◌∷◌, ◌++◌, ℤ}
 use Rattle.std.specs.List.{flat_map}
 use Rattle.std.specs.Fmt.{signed_decimal}
 use Rattle.cuts.specs.Fields.{comma}
 use Rattle.saved.specs.Texts.{line_end}
-use Rattle.page.specs.Pages.{written}
+use Rattle.page.specs.Pages.{Follows}
 use Rattle.page.specs.declared.pages.Page.{Page}
 
 -- more bytes than any saved text has
@@ -13,7 +13,7 @@ longest = 90000
 
 -- the bytes are added to the page, as far as there is room
 pub record Adds (bytes : List ℕ) (before after : Page longest) : Type 0 where
-  pub text : written after ≡ take longest (written before ++ bytes)
+  pub text : Follows bytes before after
 
 -- a letter and numbers, with commas between them, and a line end
 abbrev pub numbers_text : ℕ → List ℤ → List ℕ

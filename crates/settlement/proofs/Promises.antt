@@ -18,6 +18,7 @@ use Rattle.day_ahead.proofs.Living.{decided}
 use Rattle.day_ahead.proofs.Moving.{price_stays}
 use Rattle.real_time.specs.Weights.{base_view}
 use Rattle.real_time.proofs.Laws.{same_facts}
+use Rattle.pricing.specs.Markets.{market_price}
 use Rattle.pricing.specs.Origins.{Priced, own_price}
 use Rattle.pricing.specs.Taken.{TakenByKind}
 use Rattle.pricing.proofs.Standing.{point_stands}
@@ -26,11 +27,11 @@ use Rattle.saved.specs.Texts.{saved_text}
 use Rattle.saved.specs.Reading.{reading}
 use Rattle.settlement.specs.declared.deeds.Deed.{Deed}
 use Rattle.settlement.specs.Runs.{after_all, hour_of}
-use Rattle.settlement.specs.Prices.{price_in, PointPriced, WeightingPriced}
+use Rattle.settlement.specs.Prices.{PointPriced, WeightingPriced}
 use Rattle.settlement.specs.Promise.{LeftBy, WeightingFacts, PointFacts, lowering, InRange, Weighed, Resumes, Promise}
 use Rattle.settlement.proofs.Hours.{after_append, resumes, hour_lowered, same_hour}
 
-pub weightings : (market : Market) (m : Meaning) (book book' : Book) (p q : Grid) → WeightingFacts market m p q book book' → price_in market m p book ≡ price_in market m q book'
+pub weightings : (market : Market) (m : Meaning) (book book' : Book) (p q : Grid) → WeightingFacts market m p q book book' → market_price market m p book ≡ market_price market m q book'
 weightings DayAhead m book book' p q facts = decided m p q book book' facts
 weightings RealTime m book book' p q facts = same_facts m p q book book' facts
 

@@ -1,18 +1,15 @@
 -- The price of a point, or of a weighting by itself, in either market, and the answers of a run.
-use Rattle.std.specs.Prelude.{◌≡◌, ℕ, ◌<◌, ◌≤◌, List, [], ◌∷◌, length, ℤ, Ok, Err, vec_items, Result}
-use Rattle.refusals.specs.declared.Refusal.{Refusal}
+use Rattle.std.specs.Prelude.{◌≡◌, ℕ, ◌<◌, ◌≤◌, List, [], ◌∷◌, length, Ok, Err, vec_items, Result}
 use Rattle.refusals.specs.declared.Refusal.TheVariants.{BufferShort}
 use Rattle.faults.specs.declared.Fault.{Fault}
 use Rattle.hour.specs.Hour.{Hour, entries}
 use Rattle.hour.specs.Replays.{step, said}
 use Rattle.hour.specs.declared.book.Book.{Book}
 use Rattle.hour.specs.declared.records.Market.{Market}
-use Rattle.hour.specs.declared.records.Market.TheVariants.{DayAhead, RealTime}
 use Rattle.posting.specs.Grids.{Grid}
 use Rattle.weighting.specs.Meanings.{Meaning}
 use Rattle.weighting.specs.declared.points.Point.{Point}
-use Rattle.day_ahead.specs.Prices.{day_ahead_price}
-use Rattle.real_time.specs.Prices.{real_time_price}
+use Rattle.pricing.specs.Markets.{market_price}
 use Rattle.pricing.specs.Origins.{Priced, own_price}
 use Rattle.pricing.specs.Points.{PricedAt}
 use Rattle.saved.specs.Texts.{saved_text}
@@ -23,18 +20,13 @@ use Rattle.settlement.specs.declared.deeds.Answer.{Answer}
 use Rattle.settlement.specs.declared.deeds.Answer.TheVariants as answer
 use Rattle.settlement.specs.Runs.{after_deed}
 
--- the price of a weighting in a market
-abbrev pub price_in : Market → Meaning → Grid → Book → Result ℤ Refusal
-price_in DayAhead m posted book = day_ahead_price m posted book
-price_in RealTime m posted book = real_time_price m posted book
-
 -- cents and origin, or the refusal, of a point in a market
 abbrev pub PointPriced : Market → Point → Grid → Book → Priced → Type 0
-PointPriced market point posted book r = PricedAt (λ m. price_in market m posted book) point r
+PointPriced market point posted book r = PricedAt (λ m. market_price market m posted book) point r
 
 -- of a weighting by itself
 abbrev pub WeightingPriced : Market → Meaning → Grid → Book → Priced → Type 0
-WeightingPriced market m posted book r = r ≡ own_price (price_in market m posted book)
+WeightingPriced market m posted book r = r ≡ own_price (market_price market m posted book)
 
 -- what a resume says of its text
 abbrev pub accepted : Result Hour Fault → Result (Unit {0}) Fault

@@ -15,6 +15,7 @@ use Rattle.day_ahead.specs.Prices.{base_case, case_under}
 use Rattle.day_ahead.specs.Facts.{LiveFacts, Posted}
 use Rattle.day_ahead.specs.Moves.{bus_congestion}
 use Rattle.real_time.specs.Laws.{SameFacts}
+use Rattle.pricing.specs.Markets.{market_price}
 use Rattle.pricing.specs.Origins.{Priced}
 use Rattle.pricing.specs.Taken.{OfTaken}
 use Rattle.pricing.specs.PointFacts.{DayAheadFacts, RealTimeFacts}
@@ -23,7 +24,7 @@ use Rattle.saved.specs.Reading.{reading}
 use Rattle.settlement.specs.declared.deeds.Deed.{Deed}
 use Rattle.settlement.specs.declared.deeds.Deed.TheVariants as deed
 use Rattle.settlement.specs.Runs.{hour_of}
-use Rattle.settlement.specs.Prices.{price_in, PointPriced}
+use Rattle.settlement.specs.Prices.{PointPriced}
 
 -- a book that a run leaves
 abbrev pub LeftBy : List Deed → Book → Type 0
@@ -67,7 +68,7 @@ pub record Promise (deeds : List Deed) : Type 0 where
   -- two books, each with its own run and posting, that agree in the live facts of a weighting give it the same price or refusal
   pub live_facts_decide_weightings : (market : Market) (m : Meaning) (others : List Deed) (book book' : Book) (posted posted' : Grid)
       → LeftBy deeds book → LeftBy others book' → WeightingFacts market m posted posted' book book'
-      → price_in market m posted book ≡ price_in market m posted' book'
+      → market_price market m posted book ≡ market_price market m posted' book'
   -- and so with the live facts, cents and origin, or refusal, of a point
   pub live_facts_decide_points : (market : Market) (point : Point) (others : List Deed) (book book' : Book) (posted posted' : Grid) (r : Priced)
       → LeftBy deeds book → LeftBy others book' → PointFacts market point posted posted' book book'
@@ -76,7 +77,7 @@ pub record Promise (deeds : List Deed) : Type 0 where
   pub reference_moves_no_weighting : (m : Meaning) (book book' : Book) (posted : Grid) (bus : ℕ) → bus < 256
       → LeftBy deeds book → InRange (entries book).lambda (bus_congestion posted bus book)
       → LeftBy (deeds ++ lowering (entries book).lambda (bus_congestion posted bus book)) book' → Weighed posted book m
-      → price_in DayAhead m (reference_grid posted bus) book' ≡ price_in DayAhead m posted book
+      → market_price DayAhead m (reference_grid posted bus) book' ≡ market_price DayAhead m posted book
   pub reference_moves_no_point : (point : Point) (book book' : Book) (posted : Grid) (bus : ℕ) (r : Priced) → bus < 256
       → LeftBy deeds book → InRange (entries book).lambda (bus_congestion posted bus book)
       → LeftBy (deeds ++ lowering (entries book).lambda (bus_congestion posted bus book)) book' → OfTaken (base_case book) point (Weighed posted book)

@@ -6,13 +6,11 @@ ghost use Rattle.settlement.specs.Prices.{Answers, AnswersAll, Saves, PointPrice
 ghost use Rattle.settlement.specs.Promise.{Promise};
 
 use crate::deeds::{Answer, Deed};
-use day_ahead::prices::day_ahead_price;
 use hour::book::Book;
 use hour::records::Market;
 use posting::Posting;
+use pricing::markets::{InMarket, Market as _, point_price};
 use pricing::origins::{Origin, own_price};
-use pricing::points::{day_ahead_point, real_time_point};
-use real_time::prices::real_time_price;
 use refusals::Refusal;
 use saved::reading::resume;
 use saving::save;
@@ -87,7 +85,7 @@ impl<W: Weighting, P: Posting> Desk<'_, W, P> {
         Ok(Answer::Saved(saved))
     }
 
-    // The price of a point in a market. Two markets with a function each: a match says it plainest.
+    // The price of a point in a market.
     fn price_point(
         &self,
         book: &Book,
@@ -96,19 +94,23 @@ impl<W: Weighting, P: Posting> Desk<'_, W, P> {
     ) -> Result<(i64, Origin), Refusal>
         ensures { PointPriced market point (P.Posting.grid self.now.posting.now) book.now result }
     {
-        match market {
-            Market::DayAhead => day_ahead_point(book, self.posting, point),
-            Market::RealTime => real_time_point(book, self.posting, point),
-        }
+        let market = InMarket {
+            book,
+            posting: self.posting,
+            market,
+        };
+        point_price(&market, point)
     }
 
     // The price of the weighting by itself in a market.
     fn price_weighting(&self, book: &Book, market: Market) -> Result<(i64, Origin), Refusal>
         ensures { WeightingPriced market (W.Weighting.meaning self.now.weighting.now) (P.Posting.grid self.now.posting.now) book.now result }
     {
-        own_price(match market {
-            Market::DayAhead => day_ahead_price(book, self.weighting, self.posting),
-            Market::RealTime => real_time_price(book, self.weighting, self.posting),
-        })
+        let market = InMarket {
+            book,
+            posting: self.posting,
+            market,
+        };
+        own_price(market.price_of(self.weighting))
     }
 }

@@ -13,7 +13,7 @@ use Rattle.weighting.specs.declared.points.SettlementPoint.TheVariants as point
 use Rattle.weighting.specs.declared.zones.Zone.{Zone}
 use Rattle.weighting.specs.declared.ties.Tie.{Tie}
 
-number_is : (m n : ℕ) → pos m ≡ pos n → m ≡ n
+pub number_is : (m n : ℕ) → pos m ≡ pos n → m ≡ n
 number_is m n e = cc
 
 -- the number tells the point of a kind
@@ -28,7 +28,7 @@ hub_is West = refl
 hub_is Panhandle = refl
 hub_is Average = refl
 
-same_hub : (h g : Hub) → hub_number h ≡ hub_number g → h ≡ g
+pub same_hub : (h g : Hub) → hub_number h ≡ hub_number g → h ≡ g
 same_hub h g e = sym (hub_is h) ∙ ap hub_of e ∙ hub_is g
 
 same_zone : (y z : Zone) → zone_number y ≡ zone_number z → y ≡ z

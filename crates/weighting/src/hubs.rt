@@ -98,21 +98,8 @@ impl Hub {
         ensures weights { WeightsOf (hub_meaning self) (view case.now) result }
         ensures shares { HubShares self (view case.now) result }
     {
-        let members = members_of(case.book);
-        each(|bus| self.share(case, &members, bus))
-    }
-
-    // What a bus weighs, with the members of every hub bus at hand.
-    fn share(self, case: &Case, members: &[BusSet; 156], bus: u8) -> u32
-        requires { MembersOf (entries case.now.book.now) members.now }
-        ensures { result ≡ hub_weight self (view case.now) bus }
-    {
-        let hub_bus = case.hub_bus(bus);
-        if case.is_live(bus) && self.has(hub_bus) {
-            UNIT / live_buses(case, members, hub_bus)
-        } else {
-            0
-        }
+        let counted = Counted::of(case);
+        each(|bus| counted.share(self, bus))
     }
 }
 
@@ -124,13 +111,45 @@ impl Weighting for Hub {
     }
 }
 
-// How many buses of a hub bus are live in the case.
-fn live_buses(case: &Case, members: &[BusSet; 156], hub_bus: u8) -> u32
-    requires members { MembersOf (entries case.now.book.now) members.now }
-    requires row { hub_bus < 156 }
-    ensures { result ≡ live_of (view case.now) hub_bus }
-{
-    count(both(case.live, members[usize::from(hub_bus)]))
+// A case with the members of every hub bus at hand.
+#[derive(Drop)]
+struct Counted<'a> {
+    case: Case<'a>,
+    members: [BusSet; 156],
+    ghost sorted: { MembersOf (entries case.book.now) members },
+}
+
+impl<'a> Counted<'a> {
+    fn of(case: &Case<'a>) -> Counted<'a>
+        ensures { result.case ≡ case.now }
+    {
+        Counted {
+            case: *case,
+            members: members_of(case.book),
+        }
+    }
+}
+
+impl Counted<'_> {
+    // What a bus weighs in a hub.
+    fn share(&self, hub: Hub, bus: u8) -> u32
+        ensures { result ≡ hub_weight hub (view self.now.case) bus }
+    {
+        let hub_bus = self.case.hub_bus(bus);
+        if self.case.is_live(bus) && hub.has(hub_bus) {
+            UNIT / self.live_buses(hub_bus)
+        } else {
+            0
+        }
+    }
+
+    // How many buses of a hub bus are live.
+    fn live_buses(&self, hub_bus: u8) -> u32
+        requires { hub_bus < 156 }
+        ensures { result ≡ live_of (view self.now.case) hub_bus }
+    {
+        count(both(self.case.live, self.members[usize::from(hub_bus)]))
+    }
 }
 
 // The members of every hub bus, in one pass over the buses.

@@ -7,7 +7,7 @@ use crate::points::Kind;
 use std::fmt;
 use std::str::FromStr;
 
-// The text is the name of no kind of points.
+// The text is the name of no kind of points. Names of each sort have an error of their own, as `FromStr` asks for one.
 #[derive(Clone, Copy, Debug, PartialEq, Eq)]
 pub struct UnknownKind;
 

@@ -80,6 +80,7 @@ pub fn weigh(book: &Book, point: Point, constraint: Option<i64>) -> Result<Weigh
 fn case(book: &Book, constraint: Option<i64>) -> Result<Case<'_>, Refusal>
     ensures { CasedIn book.now (case_of (entries book.now) constraint) result }
 {
+    // A match, since `map_or_else` would only hold the two arms in closures.
     match constraint {
         None => Ok(Case::base(book, Market::DayAhead)),
         Some(number) => case_under(book, number),

@@ -26,6 +26,7 @@ impl TryFrom<i64> for Zone {
     ghost try_from_gives = { PointOf (λ z. z.number) };
 
     fn try_from(number: i64) -> Result<Zone, Refusal> {
+        // A match, since the pattern's limits are the type's invariant: a closure that makes a zone would have to require them.
         match u8::try_from(number) {
             Ok(number @ 1..=16) => Ok(Zone { number }),
             _ => Err(Refusal::PointOutside),

@@ -1,7 +1,7 @@
 // What is written to a page follows what stands on it.
-ghost use Rattle.std.specs.Prelude.{◌≡◌, [], ◌∷◌, ◌++◌, length, take};
+ghost use Rattle.std.specs.Prelude.{◌≡◌, [], ◌∷◌, length};
 ghost use Rattle.std.specs.Fmt.{signed_decimal};
-ghost use Rattle.page.specs.Pages.{written};
+ghost use Rattle.page.specs.Pages.{written, Follows};
 
 use crate::pages::Page;
 use arrayvec::ArrayVec;
@@ -26,16 +26,14 @@ impl<const N: usize> Page<N> {
 
     // One byte more.
     pub fn push(&mut self, b: u8)
-        ensures { written self.new ≡ take N (written self.old ++ (b ∷ [])) }
+        ensures { Follows (b ∷ []) self.old self.new }
     {
-        if !self.text.is_full() {
-            self.text.push(b);
-        }
+        self.push_all(&[b]);
     }
 
     // A text more.
     pub fn push_all(&mut self, bytes: &[u8])
-        ensures { written self.new ≡ take N (written self.old ++ bytes.now) }
+        ensures { Follows bytes.now self.old self.new }
     {
         let fits = bytes.len().min(self.text.remaining_capacity());
         let _ = self.text.try_extend_from_slice(&bytes[..fits]);
@@ -43,7 +41,7 @@ impl<const N: usize> Page<N> {
 
     // A number more, with a minus before a negative one.
     pub fn push_number(&mut self, z: i64)
-        ensures { written self.new ≡ take N (written self.old ++ signed_decimal z) }
+        ensures { Follows (signed_decimal z) self.old self.new }
     {
         self.push_all(Buffer::new().format(z).as_bytes());
     }

@@ -20,7 +20,8 @@ impl Draft {
         }
     }
 
-    // A line of a letter and numbers.
+    // A line of a letter and numbers. Bytes and no `write!`: that says what it wrote only where it answers `Ok`, and a page promises it
+    // always.
     fn push_numbers(&mut self, letter: u8, numbers: &[i64])
         ensures text { Adds (numbers_text letter numbers.now) self.old.page self.new.page }
         ensures count { self.old.lines + 1 < 2 ^ 32 → self.new.lines ≡ self.old.lines + 1 }

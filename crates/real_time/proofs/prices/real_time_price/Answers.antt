@@ -16,10 +16,10 @@ returns-clause-value g c =
     let p = g.P.Posting.grid c.args.posting.now in
     let book = c.args.book.now in
     let at = c.weigh-weights.ensures in
-    let fits : SFits w128 c.hour_sum-sum.result = search rules in
+    let fits : SFits w128 c.hour_sum.result = search rules in
     c.ok_or.ensures.value
     ∙ priced_is m p book c.weigh-weights.result (at.weights (base_view book) c.base.ensures.alike) (at.total (base_view book) c.base.ensures.alike)
-    (to_z w128 (of_z w128 c.hour_sum-sum.result)) (to_z-of_z w128 c.hour_sum-sum.result fits ∙ c.hour_sum-sum.ensures.value) (sym c.total_seconds.ensures ∙ c.if-total_seconds-ne-INTERVAL.false)
+    (to_z w128 (of_z w128 c.hour_sum.result)) (to_z-of_z w128 c.hour_sum.result fits ∙ c.hour_sum.ensures.value) (sym c.total_seconds.ensures ∙ c.if-total_seconds-ne-INTERVAL.false)
     c.cents.result c.cents.ensures
 
 pub returns-clause-nearest : goal.returns-clause-nearest

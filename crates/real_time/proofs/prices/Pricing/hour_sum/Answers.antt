@@ -6,17 +6,17 @@ use Rattle.weighted_sums.specs.Weighted.{weight_in}
 use Rattle.weighted_sums.proofs.Sums.{sum_z_none, sum_z_more}
 use Rattle.weighted_sums.proofs.Withins.{within_zero}
 use Rattle.real_time.specs.Prices.{run_part}
-use Rattle.real_time.proofs.prices.hour_sum.Goals as goal
+use Rattle.real_time.proofs.prices.Pricing.hour_sum.Goals as goal
 
 pub loop-column-init : goal.loop-column-init
 loop-column-init g c = (sym (sum_z_none _), within_zero 0)
 
 pub loop-column-preserved : goal.loop-column-preserved
 loop-column-preserved g c =
-    let w = c.args.weights.now in
-    let book = c.args.book.now in
+    let w = c.args.self.now.weights.now in
+    let book = c.args.self.now.book.now in
     let k = c.loop-column.column in
-    let part : ℕ → Option Run → ℤ = run_part (weight_in w) (g.P.Posting.grid c.args.posting.now) w.total in
+    let part : ℕ → Option Run → ℤ = run_part (weight_in w) (g.P.Posting.grid c.args.self.now.posting.now) w.total in
     let same = ap (λ (l : List (Option Run)). get_or l k None) (c.as_slice-runs.ensures.value ∙ c.runs.ensures.value) in
     let is : c.run_part-sum.result ≡ part k (run_at (entries book) k) = c.run_part-sum.ensures.value ∙ ap (part k) same in
     let bound = c.run_part-sum.ensures.bound in
