@@ -20,11 +20,8 @@ fn cut(line: &str) -> Option<(&str, &str)>
     ensures first { MatchOption result (words line.now ≡ []) (λ p. words line.now ≡ p.0.now ∷ words p.1.now) }
 {
     let line = line.trim_start_matches(BLANKS);
-    match line.split_once(BLANKS) {
-        Some(parts) => Some(parts),
-        None if line.is_empty() => None,
-        None => Some((line, "")),
-    }
+    let whole = (!line.is_empty()).then_some((line, ""));
+    line.split_once(BLANKS).or(whole)
 }
 
 // What a word of a script may be read as.
@@ -97,11 +94,8 @@ impl<'a> Words<'a> {
         ensures after { left self.new ≡ others (left self.old) }
     {
         let word = self.next()?;
-        if word == yes {
-            Some(true)
-        } else {
-            (word == no).then_some(false)
-        }
+        let on = word == yes;
+        (on || word == no).then_some(on)
     }
 
     // The last word, read, where one is left.
