@@ -99,16 +99,13 @@ impl<'a> Words<'a> {
     }
 
     // The last word, read, where one is left.
-    pub fn last<T: Word>(mut self) -> Option<Option<T>>
+    pub fn last<T: Word + Drop>(mut self) -> Option<Option<T>>
     where
         T::Err: Drop,
         ensures value { result ≡ last T.of_word (left self.entry) }
     {
-        match (self.next(), self.next()) {
-            (None, _) => Some(None),
-            (Some(word), None) => word.parse().ok().map(Some),
-            (Some(_), Some(_)) => None,
-        }
+        let value = self.next().map(|word| word.parse::<T>()).transpose().ok()?;
+        self.end(value)
     }
 
     // The value, where no word is left.
