@@ -14,9 +14,5 @@ pub fn half_up(n: i128, d: u32) -> Option<i128>
     let by = i128::from(d);
     let floor = n.checked_div_euclid(by)?;
     let rest = n.rem_euclid(by);
-    if 2 * rest >= by {
-        Some(floor + 1)
-    } else {
-        Some(floor)
-    }
+    Some(if 2 * rest >= by { floor + 1 } else { floor })
 }

@@ -1,5 +1,5 @@
 -- A line cut at its blanks, and what `split_once` says of the first one.
-use Rattle.std.proofs.Common.{◌≡◌, ℕ, ◌+◌, ◌<◌, ◌≤◌, Bool, true, false, List, [], ◌∷◌, ◌++◌, length, get_or, take, drop, Some, None, Option, sym, refl, ap, ◌∙◌, subst, ⊎_elim, arith}
+use Rattle.std.proofs.Common.{◌≡◌, ℕ, ◌+◌, ◌<◌, ◌≤◌, Bool, true, false, not, eqb, List, [], ◌∷◌, ◌++◌, length, get_or, take, drop, Some, None, Option, MatchOption, Bor, sym, refl, ap, ◌∙◌, subst, ⊎_elim, arith}
 use Rattle.std.specs.Char.{char_set_contains}
 use Rattle.std.specs.Str.Pattern.{FindsBy, FindsPrefixBy, CutsPrefixes, IsFullyTrimmed, IsTrimStartMatches}
 use Rattle.std.specs.Char.{IsScalar}
@@ -8,7 +8,9 @@ use Rattle.std.specs.List.{AllByRecursion as All}
 use Rattle.std.proofs.ByRecursion.{All-from_get_or}
 use Rattle.std.proofs.lemmas.List.{take-append-drop, length-drop}
 use Rattle.std.proofs.lemmas.Str.Pattern.{drop_at_char}
-use Rattle.std.proofs.lemmas.Bool.{cond-true, cond-false, cases_Bool, cases_lt, both_ways}
+use Rattle.std.specs.Option.{option_or}
+use Rattle.std.specs.Bool.{then_some}
+use Rattle.std.proofs.lemmas.Bool.{cond-true, cond-false, cases_Bool, cases_lt, both_ways, eqb-true, eqb-false}
 use Rattle.std.proofs.lemmas.Str.{NoCharPasses-byte, encode_ascii}
 use Rattle.std.proofs.lemmas.Bool.Decides.{nat_tests}
 use Rattle.script.specs.Words.{blanks, blank, before, pieces, filled, words}
@@ -119,3 +121,13 @@ words_last s r ((ns, h), f) g l = sym (words_trimmed s r ns h) ∙ words_plain r
 
 pub words_out : (s r : List ℕ) → IsTrimStartMatches Front s r → length r ≡ 0 → words s ≡ []
 words_out s r ((ns, h), f) l = sym (words_trimmed s r ns h) ∙ words_empty r l
+
+-- what `split_once` finds in a trimmed text, or else all of it
+pub words_first : (s : List ℕ) (r e : Bor (List ℕ)) (o : Option (Bor (List ℕ) × Bor (List ℕ))) (empty : Bool) → IsTrimStartMatches Front s r.now
+    → MatchOption o ((k : ℕ → Bool) → ((c : ℕ) → char_set_contains blanks c ≡ k c) → NoCharPasses k r.now) (λ p. Found r.now p.0.now p.1.now)
+    → empty ≡ eqb (length r.now) 0 → e.now ≡ []
+    → MatchOption (option_or o (then_some (not empty) (r, e))) (words s ≡ []) (λ p. words s ≡ p.0.now ∷ words p.1.now)
+words_first s r e (Some p) empty trimmed found is none = words_cut s r.now p.0.now p.1.now trimmed found
+words_first s r e None true trimmed free is none = words_out s r.now trimmed (eqb-true (length r.now) 0 (sym is))
+words_first s r e None false trimmed free is none =
+    words_last s r.now trimmed (free blank (λ _. refl)) (omega (arith, eqb-false (length r.now) 0 (sym is))) ∙ ap (λ t. r.now ∷ words t) (sym none)

@@ -103,12 +103,9 @@ fn arguments(verb: Verb, mut args: Words<'_>) -> Option<Command>
 fn of_words(mut words: Words<'_>) -> Result<Option<Command>, NotACall>
     ensures value { result ≡ command (left words.entry) }
 {
-    let Some(first) = words.next() else {
+    let Some(first) = words.next().filter(|word| !word.starts_with('#')) else {
         return Ok(None);
     };
-    if first.starts_with('#') {
-        return Ok(None);
-    }
     let verb = first.parse::<Verb>()?;
     arguments(verb, words)
         .map(Some)

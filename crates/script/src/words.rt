@@ -20,11 +20,8 @@ fn cut(line: &str) -> Option<(&str, &str)>
     ensures first { MatchOption result (words line.now ≡ []) (λ p. words line.now ≡ p.0.now ∷ words p.1.now) }
 {
     let line = line.trim_start_matches(BLANKS);
-    match line.split_once(BLANKS) {
-        Some(parts) => Some(parts),
-        None if line.is_empty() => None,
-        None => Some((line, "")),
-    }
+    let whole = (!line.is_empty()).then_some((line, ""));
+    line.split_once(BLANKS).or(whole)
 }
 
 // What a word of a script may be read as.
@@ -97,24 +94,18 @@ impl<'a> Words<'a> {
         ensures after { left self.new ≡ others (left self.old) }
     {
         let word = self.next()?;
-        if word == yes {
-            Some(true)
-        } else {
-            (word == no).then_some(false)
-        }
+        let on = word == yes;
+        (on || word == no).then_some(on)
     }
 
     // The last word, read, where one is left.
-    pub fn last<T: Word>(mut self) -> Option<Option<T>>
+    pub fn last<T: Word + Drop>(mut self) -> Option<Option<T>>
     where
         T::Err: Drop,
         ensures value { result ≡ last T.of_word (left self.entry) }
     {
-        match (self.next(), self.next()) {
-            (None, _) => Some(None),
-            (Some(word), None) => word.parse().ok().map(Some),
-            (Some(_), Some(_)) => None,
-        }
+        let value = self.next().map(|word| word.parse::<T>()).transpose().ok()?;
+        self.end(value)
     }
 
     // The value, where no word is left.
