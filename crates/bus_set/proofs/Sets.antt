@@ -11,7 +11,7 @@ use Rattle.bus_set.specs.Sets.{bit, member, count_below, SetOf, with_bit, marked
 use Rattle.bus_set.proofs.Counts.{count_same, count_add}
 use Rattle.bus_set.proofs.Words.{bit_of_and, bit_of_or, bit_none, bit_pow, bit_not, ones_count, count_none}
 
-at_word : (ws : List ℕ) (j i : ℕ) → i < 64 → member ws (j * 64 + i) ≡ bit (get_or ws j 0) i
+pub at_word : (ws : List ℕ) (j i : ℕ) → i < 64 → member ws (j * 64 + i) ≡ bit (get_or ws j 0) i
 at_word ws j i l = ap₂ (λ (a b : ℕ). bit (get_or ws a 0) b) (div-mul-add j 64 i l) (mod-mul-add j 64 i l)
 
 word_count : (ws : List ℕ) (j : ℕ) → get_or ws j 0 < 2 ^ 64 → count_below (λ i. member ws (j * 64 + i)) 64 ≡ ones (get_or ws j 0)

@@ -13,6 +13,10 @@ use Rattle.cuts.specs.Cuts.{split}
 abbrev pub comma : ℕ
 comma = 44
 
+-- byte 10
+abbrev pub line_end : ℕ
+line_end = 10
+
 -- a fault of form at a field
 abbrev pub form_at : ℕ → Spot
 form_at field = spot Form field

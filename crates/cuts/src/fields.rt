@@ -42,7 +42,8 @@ pub fn read_letter(field: &[u8]) -> Option<char>
     }
 }
 
-// What is left of a line, from a field on; nothing behind the last field.
+// What is left of a line, from a field on; nothing behind the last field. The library's `split` would carry its closure's
+// type wherever fields are named.
 #[derive(Drop)]
 pub struct Fields<'a> {
     rest: Option<&'a [u8]>,

@@ -12,6 +12,7 @@ use Rattle.hour.specs.Limits.{last_bus, last_constraint}
 use Rattle.script.specs.declared.factors.Factor.{Factor}
 use Rattle.desk.specs.Factors.{place}
 use Rattle.desk.specs.FactorLaws.{OnlyThere}
+use Rattle.hour.proofs.Tables.{up_to_is}
 
 -- a factor's number may stand in a table
 is_within : (z : ℤ) → within z most_table_number ≡ true → Within most_table_number z
@@ -20,10 +21,6 @@ is_within (negsuc n) e = let h = leb-true _ most_table_number e in record { low 
 
 same_pos : (a b : ℕ) → pos a ≡ pos b → a ≡ b
 same_pos a b e = cc
-
-up_to_is : (z : ℤ) (m n : ℕ) → up_to z m ≡ Some n → z ≡ pos n
-up_to_is (pos k) m n h = grind (arith, common_steps)
-up_to_is (negsuc k) m n h = grind (arith, common_steps)
 
 pub only_there : (t : List ℤ) (f : Factor) (b k : ℕ) → length t ≡ 8192 → up_to f.bus last_bus ≡ Some b → b ≤ last_bus
     → up_to f.column last_constraint ≡ Some k → k ≤ last_constraint → within f.number most_table_number ≡ true → OnlyThere t (set t (place b k) f.number) f

@@ -4,7 +4,7 @@ use lib.Signed.{le_z}
 use Rattle.std.proofs.lemmas.List.{get_or-set_other}
 use Rattle.bounds.specs.Bounds.{up_to, within}
 use Rattle.hour.specs.Limits.{last_bus, last_hub_bus, last_zone, most_load, last_constraint, most_shadow_price, most_lambda, last_run, most_adder, most_seconds}
-use Rattle.hour.specs.Hour.{Hour, bus_at, with_bus, constraint_at, with_constraint, run_at, with_run, no_bus}
+use Rattle.hour.specs.Hour.{Hour, bus_at, with_bus, constraint_at, with_constraint, run_at, with_run, no_bus, with_lambda}
 use Rattle.hour.specs.Steps.{is_full, other_seconds}
 use Rattle.hour.specs.Replays.{after}
 use Rattle.hour.specs.Laws.{bus_of, constraint_of, run_of, lambda_of}
@@ -15,9 +15,6 @@ use Rattle.hour.specs.declared.calls.Call.{Call}
 use Rattle.hour.specs.declared.calls.Call.TheVariants.{Place, Status, Load, Lambda, Post, Strike, Outage, EnterRun, DropRun}
 use Rattle.hour.proofs.Outcomes.{given_left, refuse_left}
 use Rattle.hour.proofs.Tables.{up_to_is}
-
-abbrev with_lambda : Hour → ℤ → Hour
-with_lambda h z = record { buses = h.buses; lambda = Some z; constraints = h.constraints; runs = h.runs }
 
 named : (z : ℤ) (m i : ℕ) → up_to z m ≡ Some i → Some z ≡ Some (pos i)
 named z m i is = ap Some (up_to_is z m i is)

@@ -46,6 +46,10 @@ bus_at h b = slice_index_or h.buses b no_bus
 abbrev pub with_bus : Hour → ℕ → Bus → Hour
 with_bus h b record' = record { buses = slice_set h.buses b record'; lambda = h.lambda; constraints = h.constraints; runs = h.runs }
 
+-- lambda set
+abbrev pub with_lambda : Hour → ℤ → Hour
+with_lambda h z = record { buses = h.buses; lambda = Some z; constraints = h.constraints; runs = h.runs }
+
 -- the constraint, where it is posted
 abbrev pub constraint_at : Hour → ℕ → Option Constraint
 constraint_at h k = slice_index_or h.constraints k None

@@ -8,7 +8,7 @@ use Rattle.bus_set.specs.Sets.{marked}
 use Rattle.bounds.specs.Bounds.{up_to, within}
 use Rattle.hour.specs.Limits.{last_bus, last_hub_bus, last_zone, most_load, last_constraint, most_shadow_price, most_lambda, last_run, most_adder, most_seconds, most_buses}
 use Rattle.hour.specs.Sound.{hub_bus_size, total_seconds}
-use Rattle.hour.specs.Hour.{Hour, bus_at, with_bus, constraint_at, with_constraint, out_of, run_at, with_run}
+use Rattle.hour.specs.Hour.{Hour, bus_at, with_bus, with_lambda, constraint_at, with_constraint, out_of, run_at, with_run}
 use Rattle.hour.specs.declared.records.Bus.{Bus}
 use Rattle.hour.specs.declared.records.Run.{Run}
 use Rattle.hour.specs.declared.records.Market.{Market}
@@ -77,7 +77,7 @@ load_set h bus m load =
 abbrev pub lambda_set : Hour → ℤ → Outcome
 lambda_set h z =
     refuse_if (not (within z most_lambda)) LambdaOutside
-    (Ok (record { buses = h.buses; lambda = Some z; constraints = h.constraints; runs = h.runs }))
+    (Ok (with_lambda h z))
 
 -- ---- constraints
 

@@ -11,7 +11,8 @@ mod reads;
 pub mod replays;
 mod runs;
 
-// A book is opened fresh and worked through its calls only, so it is not `Clone`.
+// A book is opened fresh and worked through its calls only, so it is not `Clone`. It has no `Model`: definitions take the
+// book with its invariant.
 //
 // No book exists in which a hub bus has more than eight buses, live or dead, in which the runs together
 // pass 900 seconds, or in which a field is outside its limits.

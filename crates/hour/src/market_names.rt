@@ -7,7 +7,7 @@ use crate::records::Market;
 use std::fmt;
 use std::str::FromStr;
 
-// The text is the name of no market.
+// The text is the name of no market. Each kind of name has an error of its own, as `FromStr` asks.
 #[derive(Clone, Copy, Debug, PartialEq, Eq)]
 pub struct UnknownMarket;
 

@@ -1,4 +1,5 @@
-// The records of one operating hour, as plain values. Only a book holds them to their limits.
+// The records of one operating hour, as plain values. Only a book holds them to their limits: as ghost fields of the
+// records, every step of the rules would have to carry their proof.
 ghost use Rattle.std.specs.Prelude.{◌≡◌};
 ghost use Rattle.hour.specs.Hour.{standing_of};
 

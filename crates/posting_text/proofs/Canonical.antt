@@ -1,20 +1,17 @@
 -- The lines that are read as entries are those that write them.
-use Rattle.std.proofs.Common.{◌≡◌, ℕ, suc, ◌^◌, ◌<◌, ◌≤◌, true, false, eqb, List, [], ◌∷◌, ℤ, pos, negsuc, Some, None, Ok, decimal, Option, Result, sym, refl, ap, ◌∙◌, subst, ⊎_elim, arith}
+use Rattle.std.proofs.Common.{◌≡◌, ℕ, suc, ◌<◌, ◌≤◌, true, false, eqb, List, [], ◌∷◌, ℤ, pos, negsuc, Some, None, Ok, Option, Result, sym, refl, ap, ◌∙◌, subst, ⊎_elim, arith}
 use Rattle.std.specs.List.{AllByRecursion as All}
 use Rattle.std.specs.Fmt.{signed_decimal as signed}
-use Rattle.std.proofs.lemmas.Str.Parse.{not_in_digits}
-use Rattle.std.proofs.lemmas.Fmt.{digits_decimal}
-use Rattle.std.proofs.ByRecursion.{All-from_get_or, All-append}
 use Rattle.std.proofs.lemmas.Int.{ints}
 use Rattle.std.proofs.lemmas.Bool.{cond-true, cond-false, cases_Bool, eqb-true, lt-ltb}
 use Rattle.faults.specs.declared.Spot.{Spot}
 use Rattle.decimals.specs.Decimals.{decimal_of}
 use Rattle.decimals.specs.Canonical.{FewDigits}
-use Rattle.decimals.proofs.Signs.{own, decimal_signed, signed_decimal}
+use Rattle.decimals.proofs.Signs.{decimal_signed, signed_decimal}
 use Rattle.cuts.specs.Cuts.{split, join}
-use Rattle.cuts.specs.Fields.{comma, form_at, letter_of}
+use Rattle.cuts.specs.Fields.{comma, form_at, letter_of, line_end}
 use Rattle.cuts.proofs.Cutting.{Plain, split_join, join_split}
-use Rattle.cuts.proofs.Plains.{signed_plain}
+use Rattle.cuts.proofs.Plains.{signed_plain, join_plain}
 use Rattle.cuts.proofs.Taking.{taken_field, ended, only_byte}
 use Rattle.posting.specs.Limits.{buses, columns, most_table_number}
 use Rattle.posting.specs.Grids.{Within}
@@ -23,7 +20,6 @@ use Rattle.posting_text.specs.declared.entries.Numbers.{Numbers}
 use Rattle.posting_text.specs.declared.entries.Entry.{Entry}
 use Rattle.posting_text.specs.Entries.{entry_of}
 use Rattle.posting_text.specs.Lines.{letter, after_letter, by_letter, numbers_of, line_numbers, line_entry, and_then}
-use Rattle.posting_text.specs.Texts.{line_end}
 use Rattle.posting_text.specs.Written.{Right, written}
 use Rattle.posting_text.specs.Keeping.{never, then_held, numbers_in, entry_held}
 
@@ -50,14 +46,8 @@ pieces_plain sep e s r = (
   ),
 )
 
--- commas bring in no line end
-join_plain : (ps : List (List ℕ)) → All (Plain line_end) ps → Plain line_end (join comma ps)
-join_plain [] h = tt
-join_plain (p ∷ []) h = h.0
-join_plain (p ∷ q ∷ qs) h = All-append (λ b. b ≡ line_end → ⊥) p (comma ∷ join comma (q ∷ qs)) h.0 ((λ e. omega arith), join_plain (q ∷ qs) h.1)
-
 pub written_plain : (e : Entry) → Right e → Plain line_end (written e)
-written_plain e r = join_plain (pieces_of (numbers_in e)) (pieces_plain line_end e (omega arith) r)
+written_plain e r = join_plain line_end (pieces_of (numbers_in e)) (omega arith) (pieces_plain line_end e (omega arith) r)
 
 numbers_written : (e : Entry) → Right e → line_numbers (written e) ≡ Ok (numbers_in e)
 unfolding line_numbers

@@ -10,13 +10,14 @@ use Rattle.cuts.proofs.Cutting.{Plain, split_append, after_shorter}
 use Rattle.posting.specs.Limits.{places}
 use Rattle.posting_text.specs.declared.entries.Entry.{Entry}
 use Rattle.posting_text.specs.Lines.{line_entry, and_then}
-use Rattle.posting_text.specs.Texts.{line_end, check_from, checking, passing, past_line}
+use Rattle.posting_text.specs.Texts.{check_from, checking, passing, past_line}
 use Rattle.posting_text.specs.Written.{Right, written, text_of}
 use Rattle.posting_text.specs.Keeping.{never, then_held}
 use Rattle.posting_text.specs.Filling.{granting}
 use Rattle.posting_text.specs.Laws.{InOrder, FirstFault}
 use Rattle.posting_text.proofs.Turning.{turn, check_turn, passing_rest, more_turn}
 use Rattle.posting_text.proofs.Canonical.{entry_written, written_entry, written_plain}
+use Rattle.cuts.specs.Fields.{line_end}
 
 -- a line end and what stands around it
 front_after : (s t : List ℕ) → after line_end s ≡ Some t → s ≡ front line_end s ++ (line_end ∷ t)

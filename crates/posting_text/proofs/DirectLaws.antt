@@ -7,13 +7,14 @@ use Rattle.cuts.specs.Cuts.{split, on_first}
 use Rattle.cuts.proofs.Cutting.{split_front, split_plain, split_append}
 use Rattle.posting_text.specs.declared.entries.Entry.{Entry}
 use Rattle.posting_text.specs.Lines.{line_entry}
-use Rattle.posting_text.specs.Texts.{line_end, ended, lines}
+use Rattle.posting_text.specs.Texts.{ended, lines}
 use Rattle.posting_text.specs.Written.{Right, written}
 use Rattle.posting_text.specs.Direct.{number_after, last_number, direct_number}
 use Rattle.posting_text.specs.Keeping.{direct_small}
 use Rattle.posting_text.specs.Meanings.{direct_grid}
 use Rattle.posting_text.specs.Laws.{Whole, OneLine, Wrong, with_line, DirectLaws}
 use Rattle.posting_text.proofs.Canonical.{entry_written, written_entry, written_plain}
+use Rattle.cuts.specs.Fields.{line_end}
 
 -- a line end parts the pieces before it from those behind it
 on_first_more : (b : ℕ) (ps qs : List (List ℕ)) (p : List ℕ) (rest : List (List ℕ)) → ps ≡ p ∷ rest → on_first b (ps ++ qs) ≡ on_first b ps ++ qs

@@ -1,6 +1,6 @@
 -- A text, line by line.
-use Rattle.std.proofs.Common.{◌≡◌, ℕ, ◌+◌, ◌<◌, true, false, eqb, List, [], ◌∷◌, length, Some, None, Ok, Err, Option, Result, sym, refl, ap, ◌∙◌, subst, ⊎_elim, arith, Bor, MatchResult}
-use Rattle.std.proofs.lemmas.Bool.{cond-true, cond-false, cases_Bool, eqb-true}
+use Rattle.std.proofs.Common.{◌≡◌, ℕ, ◌+◌, ◌<◌, true, false, eqb, List, [], ◌∷◌, length, Some, None, Ok, Err, Option, Result, sym, refl, ap, ◌∙◌, subst, arith, Bor, MatchResult}
+use Rattle.std.proofs.lemmas.Bool.{eqb-true}
 use Rattle.std.proofs.lemmas.Bool.Decides.{nat_tests}
 use Rattle.faults.specs.declared.Fault.{Fault}
 use Rattle.faults.specs.declared.Spot.{Spot}
@@ -13,7 +13,8 @@ use Rattle.posting_text.specs.declared.entries.Entry.{Entry}
 use Rattle.posting_text.specs.Entries.{entry_of}
 use Rattle.posting_text.specs.Lines.{line_numbers, line_entry, and_then}
 use Rattle.posting_text.specs.Keeping.{never, then_held}
-use Rattle.posting_text.specs.Texts.{line_end, ended, lines, check_last, check_from, passing, past_line}
+use Rattle.posting_text.specs.Texts.{ended, lines, check_last, check_from, passing, past_line}
+use Rattle.cuts.specs.Fields.{line_end}
 
 -- a piece that others follow has its end
 ended_more : (l : List ℕ) (t : List ℕ) → ended (l ∷ split line_end t) ≡ l ∷ ended (split line_end t)

@@ -6,10 +6,11 @@ use Rattle.faults.specs.declared.Why.TheVariants.{Short}
 use Rattle.faults.specs.Faults.{spot, fault}
 use Rattle.posting.specs.Grids.{Grid, SmallIn}
 use Rattle.posting_text.specs.declared.entries.Entry.{Entry}
-use Rattle.posting_text.specs.Texts.{line_end, past_line}
+use Rattle.posting_text.specs.Texts.{past_line}
 use Rattle.posting_text.specs.Written.{Right, written, text_of}
 use Rattle.posting_text.specs.Meanings.{direct_grid}
 use Rattle.posting.specs.Limits.{places}
+use Rattle.cuts.specs.Fields.{line_end}
 
 -- a text in order is a line for each of n entries, all of which may be posted
 pub record InOrder (text : List ℕ) (n : ℕ) : Type 0 where

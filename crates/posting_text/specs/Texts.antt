@@ -6,10 +6,7 @@ use Rattle.faults.specs.declared.Why.TheVariants.{Form}
 use Rattle.faults.specs.Faults.{spot, fault, in_line}
 use Rattle.cuts.specs.Cuts.{front, after, split}
 use Rattle.posting_text.specs.Lines.{line_numbers, line_entry, and_then}
-
--- byte 10
-abbrev pub line_end : ℕ
-line_end = 10
+use Rattle.cuts.specs.Fields.{line_end}
 
 -- the pieces that a line end follows: all but the last
 abbrev pub ended : List (List ℕ) → List (List ℕ)

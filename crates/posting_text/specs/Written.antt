@@ -4,10 +4,9 @@ use Rattle.std.specs.Fmt.{signed_decimal}
 use Rattle.posting.specs.Limits.{buses, columns, most_table_number}
 use Rattle.posting.specs.Grids.{Within}
 use Rattle.cuts.specs.Cuts.{join}
-use Rattle.cuts.specs.Fields.{comma}
+use Rattle.cuts.specs.Fields.{comma, line_end}
 use Rattle.posting_text.specs.declared.entries.Entry.{Entry}
 use Rattle.posting_text.specs.Lines.{letter}
-use Rattle.posting_text.specs.Texts.{line_end}
 
 -- an entry that may be posted
 pub record Right (e : Entry) : Type 0 where

@@ -4,7 +4,7 @@ use Rattle.faults.specs.declared.Fault.{Fault}
 use Rattle.faults.specs.declared.Spot.{Spot}
 use Rattle.faults.specs.Faults.{in_line}
 use Rattle.cuts.specs.Cuts.{split}
-use Rattle.cuts.specs.Fields.{comma}
+use Rattle.cuts.specs.Fields.{comma, line_end}
 use Rattle.cuts.proofs.Cutting.{split_front}
 use Rattle.hour.specs.Hour.{Hour}
 use Rattle.saved_rows.specs.Order.{finished}
@@ -14,7 +14,6 @@ use Rattle.saved_rows.specs.declared.row.Row.{Row}
 use Rattle.saved_rows.proofs.OnlySaved.{never}
 use Rattle.saved_rows.proofs.FirstFault.{same_err}
 use Rattle.saved.specs.Lines.{row_of}
-use Rattle.saved.specs.Texts.{line_end}
 use Rattle.saved.specs.Reading.{unended, read_from}
 use Rattle.saved.specs.Laws.{fault_of, Wrong, line_of, First, FirstFault}
 use Rattle.saved.proofs.RowTexts.{line_row}

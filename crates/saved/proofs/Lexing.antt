@@ -5,7 +5,7 @@ use Rattle.std.proofs.lemmas.Bool.{cond-false}
 use Rattle.faults.specs.declared.Spot.{Spot}
 use Rattle.faults.specs.Faults.{fault, in_line}
 use Rattle.cuts.specs.Cuts.{split, join}
-use Rattle.cuts.specs.Fields.{comma}
+use Rattle.cuts.specs.Fields.{comma, line_end}
 use Rattle.cuts.proofs.Cutting.{split_append}
 use Rattle.hour.specs.Hour.{Hour}
 use Rattle.saved_rows.specs.declared.row.Row.{Row}
@@ -14,7 +14,7 @@ use Rattle.saved_rows.specs.Running.{Place, step, onward, misended, run_rows}
 use Rattle.saved_rows.specs.Laws.{Writable}
 use Rattle.saved_rows.proofs.OnlySaved.{never}
 use Rattle.saved.specs.Lines.{row_of}
-use Rattle.saved.specs.Texts.{line_end, fields_of, line_text, text_of}
+use Rattle.saved.specs.Texts.{fields_of, line_text, text_of}
 use Rattle.saved.specs.Reading.{unended, read_from}
 use Rattle.saved.proofs.RowTexts.{row_line, line_row, line_plain}
 use Rattle.saved.proofs.Turns.{after_row, with_end}

@@ -6,9 +6,10 @@ use Rattle.hour.specs.Hour.{entries}
 use Rattle.saved_rows.specs.Rows.{all_rows}
 use Rattle.saved_rows.specs.Running.{begin}
 use Rattle.saved_rows.proofs.Trip.{laws}
-use Rattle.saved.specs.Texts.{line_end, text_of, saved_text}
+use Rattle.saved.specs.Texts.{text_of, saved_text}
 use Rattle.saved.specs.Laws.{ReadsBack, OnlySaved}
 use Rattle.saved.proofs.Lexing.{read_rows, rows_read}
+use Rattle.cuts.specs.Fields.{line_end}
 
 -- the saved text of a book is read as its entries
 pub reads_back : ReadsBack

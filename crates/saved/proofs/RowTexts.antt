@@ -1,27 +1,24 @@
 -- A line and its row: what a row writes is read back, and nothing else is read.
-use Rattle.std.proofs.Common.{◌≡◌, ℕ, suc, ◌^◌, ◌<◌, Bool, true, false, cond, eqb, List, [], ◌∷◌, ℤ, pos, negsuc, Ok, decimal, Result, sym, refl, ap, ◌∙◌, subst, ⊎_elim, arith}
+use Rattle.std.proofs.Common.{◌≡◌, ℕ, ◌<◌, Bool, true, false, cond, eqb, List, [], ◌∷◌, ℤ, Ok, Result, sym, refl, ap, ◌∙◌, subst, ⊎_elim, arith}
 use Rattle.std.specs.Fmt.{signed_decimal as signed}
 use Rattle.std.specs.List.{AllByRecursion as All}
-use Rattle.std.proofs.lemmas.Str.Parse.{not_in_digits}
-use Rattle.std.proofs.lemmas.Fmt.{digits_decimal}
-use Rattle.std.proofs.ByRecursion.{All-from_get_or, All-append}
 use Rattle.std.proofs.lemmas.Bool.{cond-true, cond-false, cases_Bool, eqb-true}
 use Rattle.faults.specs.Faults.{malformed}
 use Rattle.faults.specs.declared.Spot.{Spot}
 use Rattle.decimals.specs.Decimals.{decimal_of}
 use Rattle.decimals.specs.Canonical.{FewDigits}
-use Rattle.decimals.proofs.Signs.{own, decimal_signed, signed_decimal}
+use Rattle.decimals.proofs.Signs.{decimal_signed, signed_decimal}
 use Rattle.cuts.specs.Cuts.{split, join}
-use Rattle.cuts.specs.Fields.{comma, form_at, status_of, number, status}
+use Rattle.cuts.specs.Fields.{comma, form_at, status_of, number, status, line_end}
 use Rattle.cuts.proofs.Cutting.{Plain, split_join, join_split}
-use Rattle.cuts.proofs.Plains.{signed_plain}
+use Rattle.cuts.proofs.Plains.{signed_plain, join_plain}
 use Rattle.cuts.proofs.Taking.{taken_field, ended}
 use Rattle.saved_rows.specs.Laws.{Writable}
 use Rattle.saved_rows.specs.declared.row.Row.{Row}
 use Rattle.saved_rows.specs.declared.row.Row.TheVariants as row
 use Rattle.saved_rows.proofs.OnlySaved.{never}
 use Rattle.saved.specs.Lines.{row_of, by_letter, bus_of, of_one, of_two, run_of}
-use Rattle.saved.specs.Texts.{line_end, status_text, fields_of}
+use Rattle.saved.specs.Texts.{status_text, fields_of}
 
 -- neither comma nor line end stands in a field
 letter_plain : (sep b : ℕ) → sep < 45 → 45 < b → Plain sep (b ∷ [])
@@ -55,14 +52,8 @@ fields_plain sep (row.Run k t a r) s h =
     (letter_plain sep 82 s (omega arith), (signed_plain sep k s h.0, (signed_plain sep t s h.1, (signed_plain sep a s h.2, (signed_plain sep r s h.3, tt)))))
 fields_plain sep (row.End n) s h = (letter_plain sep 90 s (omega arith), (signed_plain sep n s h, tt))
 
--- commas bring in no line end
-join_plain : (ps : List (List ℕ)) → All (Plain line_end) ps → Plain line_end (join comma ps)
-join_plain [] h = tt
-join_plain (p ∷ []) h = h.0
-join_plain (p ∷ q ∷ ps) h = All-append (λ b. b ≡ line_end → ⊥) p (comma ∷ join comma (q ∷ ps)) h.0 ((λ e. omega arith), join_plain (q ∷ ps) h.1)
-
 pub line_plain : (r : Row) → Writable r → Plain line_end (join comma (fields_of r))
-line_plain r h = join_plain (fields_of r) (fields_plain line_end r (omega arith) h)
+line_plain r h = join_plain line_end (fields_of r) (omega arith) (fields_plain line_end r (omega arith) h)
 
 -- the fields of a line come apart again
 rejoined : (r : Row) → Writable r → split comma (join comma (fields_of r)) ≡ fields_of r

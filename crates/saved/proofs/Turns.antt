@@ -1,13 +1,13 @@
 -- One turn of the reader.
-use Rattle.std.proofs.Common.{◌≡◌, ℕ, ◌+◌, ◌-◌, ◌<◌, true, false, cond, eqb, List, [], ◌∷◌, length, Some, None, Ok, Err, Option, Result, sym, refl, ap, ◌∙◌, subst, ⊎_elim, arith, Bor, MatchOption}
+use Rattle.std.proofs.Common.{◌≡◌, ℕ, ◌+◌, ◌-◌, ◌<◌, true, false, cond, eqb, List, [], ◌∷◌, length, Some, None, Ok, Err, Option, Result, sym, refl, ap, ◌∙◌, subst, arith, Bor, MatchOption}
 use Rattle.std.specs.Option.{ok_or}
 use Rattle.std.proofs.lemmas.Bool.Decides.{nat_tests}
-use Rattle.std.proofs.lemmas.Bool.{cond-true, cond-false, cases_Bool}
+use Rattle.std.proofs.lemmas.Bool.{cond-true, cond-false}
 use Rattle.faults.specs.declared.Spot.{Spot}
 use Rattle.faults.specs.declared.Fault.{Fault}
 use Rattle.faults.specs.Faults.{fault, in_line}
 use Rattle.cuts.specs.Cuts.{split, front, after, split_rest}
-use Rattle.cuts.specs.Fields.{comma}
+use Rattle.cuts.specs.Fields.{comma, line_end}
 use Rattle.cuts.proofs.Cutting.{split_front, front_whole}
 use Rattle.hour.specs.Hour.{Hour}
 use Rattle.saved_rows.specs.declared.row.Row.{Row}
@@ -15,7 +15,6 @@ use Rattle.saved_rows.specs.declared.stage.Stage.{Stage}
 use Rattle.saved_rows.specs.Order.{finished}
 use Rattle.saved_rows.specs.Running.{Place, place, step, onward, misended, Takes}
 use Rattle.saved.specs.Lines.{row_of}
-use Rattle.saved.specs.Texts.{line_end}
 use Rattle.saved.specs.Reading.{unended, read_last, read_from}
 
 -- what follows a line whose row is r

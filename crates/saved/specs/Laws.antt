@@ -4,7 +4,7 @@ use Rattle.faults.specs.declared.Fault.{Fault}
 use Rattle.faults.specs.declared.Spot.{Spot}
 use Rattle.faults.specs.Faults.{fault}
 use Rattle.cuts.specs.Cuts.{split, join}
-use Rattle.cuts.specs.Fields.{comma}
+use Rattle.cuts.specs.Fields.{comma, line_end}
 use Rattle.hour.specs.Hour.{Hour, entries}
 use Rattle.hour.specs.declared.book.Book.{Book}
 use Rattle.saved_rows.specs.Order.{finished}
@@ -12,7 +12,7 @@ use Rattle.saved_rows.specs.Running.{Place, begin, step, misended}
 use Rattle.saved_rows.specs.Laws.{reached}
 use Rattle.saved_rows.specs.declared.row.Row.{Row}
 use Rattle.saved.specs.Lines.{row_of}
-use Rattle.saved.specs.Texts.{line_end, fields_of, saved_text}
+use Rattle.saved.specs.Texts.{fields_of, saved_text}
 use Rattle.saved.specs.Reading.{unended, reading}
 
 -- the saved text of a book is read as the book's entries

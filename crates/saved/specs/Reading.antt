@@ -4,12 +4,11 @@ use Rattle.faults.specs.declared.Fault.{Fault}
 use Rattle.faults.specs.declared.Why.TheVariants.{Form}
 use Rattle.faults.specs.Faults.{fault, in_line}
 use Rattle.cuts.specs.Cuts.{split}
-use Rattle.cuts.specs.Fields.{comma}
+use Rattle.cuts.specs.Fields.{comma, line_end}
 use Rattle.hour.specs.Hour.{Hour}
 use Rattle.saved_rows.specs.Order.{finished}
 use Rattle.saved_rows.specs.Running.{Place, step, onward, misended, begin}
 use Rattle.saved.specs.Lines.{row_of}
-use Rattle.saved.specs.Texts.{line_end}
 
 -- a line has no end
 abbrev pub unended : ℕ → Fault

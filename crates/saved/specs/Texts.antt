@@ -3,15 +3,11 @@ use Rattle.std.specs.Prelude.{ℕ, Bool, true, false, List, [], ◌∷◌, ◌++
 use Rattle.std.specs.List.{flat_map}
 use Rattle.std.specs.Fmt.{signed_decimal}
 use Rattle.cuts.specs.Cuts.{join}
-use Rattle.cuts.specs.Fields.{comma}
+use Rattle.cuts.specs.Fields.{comma, line_end}
 use Rattle.hour.specs.Hour.{Hour}
 use Rattle.saved_rows.specs.Rows.{all_rows}
 use Rattle.saved_rows.specs.declared.row.Row.{Row}
 use Rattle.saved_rows.specs.declared.row.Row.TheVariants as row
-
--- byte 10
-abbrev pub line_end : ℕ
-line_end = 10
 
 -- 0 or 1
 abbrev pub status_text : Bool → List ℕ

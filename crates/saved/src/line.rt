@@ -79,7 +79,8 @@ fn read_number<'a>(mut fields: Fields<'a>) -> Result<&'a [u8], Spot>
     Ok(number)
 }
 
-// The two fields behind a letter, which have to be numbers. Beside the reader of one: an array of any length would need a loop, and be taken apart again.
+// The two fields behind a letter, which have to be numbers. Beside the reader of one: `array::try_from_fn` for any number of
+// them asks that the items fit in memory, says of an error no turn that it came from, and the array is taken apart again.
 fn read_pair<'a>(mut fields: Fields<'a>) -> Result<(&'a [u8], &'a [u8]), Spot>
     ensures { TwoRead (left fields.entry) result }
 {

@@ -1,12 +1,12 @@
 -- Outage marks: the lines of the buses out under a constraint, and words that hold the same buses.
-use Rattle.std.proofs.Common.{◌≡◌, ℕ, zero, suc, ◌+◌, ◌*◌, ◌/◌, ◌%◌, ◌^◌, ◌<◌, ◌≤◌, Bool, true, false, cond, eqb, List, [], ◌∷◌, ◌++◌, get_or, pos, sym, refl, ap, ◌∙◌, ap₂, ⊎_elim, append-nil, pow-suc, arith}
-use Rattle.std.proofs.lemmas.Nat.{div-mul-add, mod-mul-add, mod_below}
+use Rattle.std.proofs.Common.{◌≡◌, ℕ, zero, suc, ◌+◌, ◌*◌, ◌/◌, ◌%◌, ◌^◌, ◌<◌, ◌≤◌, Bool, true, false, cond, eqb, List, [], ◌∷◌, ◌++◌, get_or, pos, sym, refl, ap, ◌∙◌, ⊎_elim, append-nil, pow-suc, arith}
+use Rattle.std.proofs.lemmas.Nat.{mod_below}
 use Rattle.std.proofs.lemmas.List.{ext_get_or}
 use Rattle.std.proofs.lemmas.Bool.{cases_eq}
 use Rattle.std.proofs.lemmas.Bool.Decides.{nat_tests}
 use Rattle.bus_set.specs.Sets.{bit, member, four_words}
 use Rattle.bus_set.proofs.Words.{bit_low, bit_up}
-use Rattle.bus_set.proofs.Sets.{words_length, words_below}
+use Rattle.bus_set.proofs.Sets.{words_length, words_below, at_word}
 use Rattle.saved_rows.specs.declared.row.Row.{Row}
 use Rattle.saved_rows.specs.declared.row.Row.TheVariants as row
 use Rattle.saved_rows.specs.Rows.{outage_rows}
@@ -61,9 +61,6 @@ word_same (suc n) w v p q h =
     let low : w % 2 ≡ v % 2 = low_same (w % 2) (v % 2) (mod_below w 2 (omega arith)) (mod_below v 2 (omega arith)) (sym (bit_low w) ∙ h 0 (omega arith) ∙ bit_low v) in
     omega (arith, high, low)
 
-at_word : (ws : List ℕ) (j i : ℕ) → i < 64 → member ws (j * 64 + i) ≡ bit (get_or ws j 0) i
-at_word ws j i l = ap₂ (λ (a b : ℕ). bit (get_or ws a 0) b) (div-mul-add j 64 i l) (mod-mul-add j 64 i l)
-
 -- four words are their buses
 pub words_same : (a b : List ℕ) → four_words a ≡ true → four_words b ≡ true → ((j : ℕ) → j < 256 → member a j ≡ member b j) → a ≡ b
 words_same a b ha hb h =
@@ -72,3 +69,7 @@ words_same a b ha hb h =
     let at : (i : ℕ) → i < 4 → get_or a i 0 ≡ get_or b i 0 =
     λ i l. word_same 64 (get_or a i 0) (get_or b i 0) (words_below a ha i l) (words_below b hb i l) (λ k lk. sym (at_word a i k lk) ∙ h (i * 64 + k) (omega arith) ∙ at_word b i k lk) in
     ext_get_or 0 a b (la ∙ sym lb) (λ i l. at i (omega arith))
+
+-- the words of no bus
+abbrev pub no_words : List ℕ
+no_words = 0 ∷ 0 ∷ 0 ∷ 0 ∷ []

@@ -12,7 +12,7 @@ use Rattle.bus_set.specs.Sets.{member, marked}
 use Rattle.bus_set.proofs.Sets.{no_members, member_with}
 use Rattle.bounds.specs.Bounds.{up_to, within}
 use Rattle.hour.specs.Limits.{most_lambda, most_shadow_price, most_adder}
-use Rattle.hour.specs.Hour.{Hour, no_bus, with_bus, with_constraint, with_run, constraint_at, out_of}
+use Rattle.hour.specs.Hour.{Hour, no_bus, with_bus, with_constraint, with_run, constraint_at, out_of, with_lambda}
 use Rattle.hour.specs.Steps.{is_full, other_seconds, entered_run}
 use Rattle.hour.specs.declared.records.Bus.{Bus}
 use Rattle.hour.specs.declared.records.Constraint.{Constraint}
@@ -31,7 +31,7 @@ use Rattle.saved_rows.specs.Running.{Place, place, onward, run_rows, step, step_
 use Rattle.saved_rows.specs.Laws.{OnlySaved}
 use Rattle.saved_rows.proofs.Calls.{values, valued_is}
 use Rattle.saved_rows.proofs.Runs.{no_true}
-use Rattle.saved_rows.proofs.Marks.{outages_none, outages_grow}
+use Rattle.saved_rows.proofs.Marks.{outages_none, outages_grow, no_words}
 use Rattle.saved_rows.proofs.Tables.{From, from_later, from_set, from_replicate, indexed_none, indexed_grow}
 
 pub never : {X A E : Type 0} (x : A) (e : E) → ◌≡◌ {A = Result A E} (Err e) (Ok x) → X
@@ -217,9 +217,6 @@ grown_bus h c s n b ok a full f e =
 
 -- ---- lambda
 
-abbrev with_lambda : Hour → ℤ → Hour
-with_lambda h z = record { buses = h.buses; lambda = Some z; constraints = h.constraints; runs = h.runs }
-
 core_lambda : (h : Hour) (s : Option Kind) (z : ℤ) → Sized h → Ahead s h → lambda_after s ≡ true → Grown h (row.Lambda z) (with_lambda h z)
 core_lambda h s z ok a f =
     let w = lambda_ahead s h a f in
@@ -239,9 +236,6 @@ grown_lambda h c s n z ok a f e =
     subst (λ (x : Hour). Grown h (row.Lambda z) x) (same_ok (with_lambda h z) c p.1) (core_lambda h s z ok a f)
 
 -- ---- constraints
-
-abbrev no_words : List ℕ
-no_words = 0 ∷ 0 ∷ 0 ∷ 0 ∷ []
 
 grow_middle : (a l m n r : List Row) → r ≡ [] → a ++ (l ++ ((m ++ n) ++ r)) ≡ (a ++ (l ++ (m ++ r))) ++ n
 grow_middle a l m n r e =

@@ -35,7 +35,7 @@ use Rattle.saved_rows.specs.Rows.{indexed, bus_numbers, bus_rows, lambda_rows, o
 use Rattle.saved_rows.specs.Running.{Place, place, onward, run_rows, step_by}
 use Rattle.saved_rows.specs.Laws.{ReadsBack}
 use Rattle.saved_rows.proofs.Calls.{valued_is}
-use Rattle.saved_rows.proofs.Marks.{outages_more, words_same}
+use Rattle.saved_rows.proofs.Marks.{outages_more, words_same, no_words}
 use Rattle.saved_rows.proofs.Runs.{Runs, runs_none, runs_append, runs_one, runs_blank, table, no_true, going}
 use Rattle.saved_rows.proofs.Tables.{From, from_replicate, set_from, set_all, sum_front}
 
@@ -146,9 +146,6 @@ mark_later k j (Some (kind.Outage c m)) q =
     let p = and_parts (eq_z c (pos k)) (lt_z m (pos j)) q in
     and_from (eq_z c (pos k)) (lt_z m (pos (suc j))) p.0 (lt_z_suc m j p.1)
 mark_later k j s q = no_true q
-
-abbrev no_words : List ℕ
-no_words = 0 ∷ 0 ∷ 0 ∷ 0 ∷ []
 
 pub words_marked : (ws : List ℕ) (j : ℕ) → j < 256 → four_words ws ≡ true → four_words (marked ws j true) ≡ true
 words_marked ws j l h =

@@ -2,8 +2,7 @@
 use Rattle.std.specs.Prelude.{ℕ, List, [], ◌∷◌, ◌++◌, ℤ}
 use Rattle.std.specs.List.{flat_map}
 use Rattle.std.specs.Fmt.{signed_decimal}
-use Rattle.cuts.specs.Fields.{comma}
-use Rattle.saved.specs.Texts.{line_end}
+use Rattle.cuts.specs.Fields.{comma, line_end}
 use Rattle.page.specs.Pages.{Follows}
 use Rattle.page.specs.declared.pages.Page.{Page}
 

@@ -5,7 +5,7 @@ use Rattle.faults.specs.declared.Fault.{Fault}
 use Rattle.refusals.specs.declared.Refusal.TheVariants.{LambdaOutside}
 use Rattle.bounds.specs.Bounds.{within}
 use Rattle.hour.specs.Limits.{most_lambda}
-use Rattle.hour.specs.Hour.{Hour, entries, bus_at, run_at}
+use Rattle.hour.specs.Hour.{Hour, entries, bus_at, run_at, with_lambda}
 use Rattle.hour.specs.Live.{base_live, is_out}
 use Rattle.hour.specs.Steps.{refuse_if}
 use Rattle.hour.specs.Replays.{left}
@@ -43,9 +43,6 @@ resumes h new text (deed.Price market point) back none = absurd none
 resumes h new text (deed.PriceWeighting market) back none = absurd none
 
 -- ---- lambda moved down
-
-abbrev with_lambda : Hour → ℤ → Hour
-with_lambda h z = record { buses = h.buses; lambda = Some z; constraints = h.constraints; runs = h.runs }
 
 set_lambda : (h : Hour) (z : ℤ) (t : Bool) → t ≡ true → left (refuse_if (not t) LambdaOutside (Ok (with_lambda h z))) h ≡ with_lambda h z
 set_lambda h z t e = ap (λ (x : Bool). left (refuse_if (not x) LambdaOutside (Ok (with_lambda h z))) h) e

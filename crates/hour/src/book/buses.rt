@@ -28,6 +28,7 @@ impl Bus {
         }
     }
 
+    // Beside it the load: each call sets one field, and a closure for the change would be longer than both bodies.
     fn with_status(self, market: Market, live: bool) -> Bus
         ensures { result ≡ with_status self market live }
     {

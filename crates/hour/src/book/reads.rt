@@ -1,4 +1,4 @@
-// What a book holds, read out as plain values.
+// What a book holds, read out as plain values. Each table has a read of its own, which carries its own part of the invariant.
 ghost use Rattle.std.specs.Prelude.{◌≡◌, true, length};
 ghost use Rattle.std.specs.Slice.Iter.{iter_rest};
 ghost use Rattle.hour.specs.Sound.{all_by, bus_sound, when_some, constraint_sound, run_sound, lambda_sound};

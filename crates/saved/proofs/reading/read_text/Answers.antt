@@ -4,10 +4,10 @@ use Rattle.cuts.specs.Cuts.{split}
 use Rattle.cuts.proofs.Cutting.{after_shorter}
 use Rattle.hour.specs.Hour.{entries}
 use Rattle.saved_rows.specs.Running.{place}
-use Rattle.saved.specs.Texts.{line_end}
 use Rattle.saved.specs.Reading.{read_from}
 use Rattle.saved.proofs.Turns.{at_done, on_err, on_row, after_err, after_ok, ended_at, unended_at}
 use Rattle.saved.proofs.reading.read_text.Goals as goal
+use Rattle.cuts.specs.Fields.{line_end}
 
 pub loop-rest-init : goal.loop-rest-init
 loop-rest-init c = ((λ i. read_from (place (record { last = c.default-stage.ensures i }) (c.fresh-book.ensures i)) 1 (split line_end c.args.text.now)), omega arith, omega arith)

@@ -2,9 +2,9 @@ use Rattle.std.proofs.Common.{◌≡◌, ◌+◌, ◌<◌, ◌≤◌, length}
 use Rattle.cuts.specs.Cuts.{split}
 use Rattle.hour.specs.Hour.{entries}
 use Rattle.saved_rows.specs.Running.{place}
-use Rattle.saved.specs.Texts.{line_end}
 use Rattle.saved.specs.Reading.{read_from, reading}
 use Rattle.saved.proofs.reading.read_text.Given as goal
+use Rattle.cuts.specs.Fields.{line_end}
 
 -- reading what is left from here on is reading the text; a line is at least its end
 abbrev pub invariant-loop-rest : goal.invariant-loop-rest
