@@ -158,10 +158,9 @@ pub fn members_of(book: &Book) -> [BusSet; 156]
 {
     // Each bus goes to the row of its hub bus, so the rows are filled and not collected.
     let mut all = [[0u64; 4]; 156];
-    for (bus, record) in book.buses().enumerate() {
+    for (bus, record) in (0..=255u8).zip(book.buses()) {
         let k = usize::from(record.hub_bus);
-        // A bus below 256 fits: an error to take apart would be no plainer.
-        all[k] = marked(all[k], bus as u8, true);
+        all[k] = marked(all[k], bus, true);
     }
     all
 }
