@@ -13,7 +13,8 @@ use faults::{Fault, in_line};
 fn count_lines(text: &[u8]) -> Result<u64, Fault>
     ensures { result ≡ checking text.now }
 {
-    // No `for` over the complete lines: what follows the last line end is faulted too.
+    // Not over the complete lines, as what follows the last line end is faulted too, nor over the pieces of `split_inclusive`, as
+    // `past_line` cuts its line off by itself.
     let mut rest = text;
     let mut count = 0;
     while !rest.is_empty() {
