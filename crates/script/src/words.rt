@@ -50,7 +50,8 @@ impl Word for Kind {
     ghost reads = { λ _ _ h. h };
 }
 
-// What is left of a line.
+// What is left of a line. The library's `split_whitespace` cuts at a form feed too, which is no blank of a script, and its `split` has
+// its closure's type wherever it is named.
 #[derive(Drop)]
 pub struct Words<'a> {
     rest: &'a str,
