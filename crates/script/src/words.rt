@@ -50,8 +50,8 @@ impl Word for Kind {
     ghost reads = { λ _ _ h. h };
 }
 
-// What is left of a line. The library's `split_whitespace` cuts at a form feed too, which is no blank of a script, and its `split` has
-// its closure's type wherever it is named.
+// What is left of a line. Not `split_ascii_whitespace`, to which a form feed is a blank too, nor a filtered `split`, which has its
+// closure's type wherever it is named.
 #[derive(Drop)]
 pub struct Words<'a> {
     rest: &'a str,
