@@ -18,9 +18,6 @@ is_within : (z : ℤ) → within z most_table_number ≡ true → Within most_ta
 is_within (pos n) e = let h = leb-true n most_table_number e in record { low = omega (arith, ints); high = omega (arith, ints) }
 is_within (negsuc n) e = let h = leb-true _ most_table_number e in record { low = omega (arith, ints); high = omega (arith, ints) }
 
-same_pos : (a b : ℕ) → pos a ≡ pos b → a ≡ b
-same_pos a b e = cc
-
 up_to_is : (z : ℤ) (m n : ℕ) → up_to z m ≡ Some n → z ≡ pos n
 up_to_is (pos k) m n h = grind (arith, common_steps)
 up_to_is (negsuc k) m n h = grind (arith, common_steps)
@@ -33,8 +30,8 @@ only_there t f b k l is-bus low-bus is-column low-column small =
     let laws = table_laws t in
     record {
       here = λ bus column e d.
-          let i : bus ≡ b = same_pos bus b (sym e ∙ p) in
-          let j : column ≡ k = same_pos column k (sym d ∙ q) in
+          let i : bus ≡ b = cc in
+          let j : column ≡ k = cc in
           ap (λ (x : ℕ). (table_grid (set t (place b k) f.number)).at x column) i
           ∙ ap (λ (x : ℕ). (table_grid (set t (place b k) f.number)).at b x) j
           ∙ laws.what_is_written_is_read b k f.number (omega arith) (omega arith) (omega arith) (is_within f.number small);

@@ -1,16 +1,14 @@
 -- The lines that are read as entries are those that write them.
-use Rattle.std.proofs.Common.{◌≡◌, ℕ, suc, ◌^◌, ◌<◌, ◌≤◌, true, false, eqb, List, [], ◌∷◌, ℤ, pos, negsuc, Some, None, Ok, decimal, Option, Result, sym, refl, ap, ◌∙◌, subst, ⊎_elim, arith}
+use Rattle.std.proofs.Common.{◌≡◌, ℕ, suc, ◌<◌, ◌≤◌, true, false, eqb, List, [], ◌∷◌, ℤ, pos, negsuc, Some, None, Ok, Option, Result, sym, refl, ap, ◌∙◌, subst, ⊎_elim, arith}
 use Rattle.std.specs.List.{AllByRecursion as All}
 use Rattle.std.specs.Fmt.{signed_decimal as signed}
-use Rattle.std.proofs.lemmas.Str.Parse.{not_in_digits}
-use Rattle.std.proofs.lemmas.Fmt.{digits_decimal}
-use Rattle.std.proofs.ByRecursion.{All-from_get_or, All-append}
+use Rattle.std.proofs.ByRecursion.{All-append}
 use Rattle.std.proofs.lemmas.Int.{ints}
 use Rattle.std.proofs.lemmas.Bool.{cond-true, cond-false, cases_Bool, eqb-true, lt-ltb}
 use Rattle.faults.specs.declared.Spot.{Spot}
 use Rattle.decimals.specs.Decimals.{decimal_of}
 use Rattle.decimals.specs.Canonical.{FewDigits}
-use Rattle.decimals.proofs.Signs.{own, decimal_signed, signed_decimal}
+use Rattle.decimals.proofs.Signs.{decimal_signed, signed_decimal}
 use Rattle.cuts.specs.Cuts.{split, join}
 use Rattle.cuts.specs.Fields.{comma, form_at, letter_of}
 use Rattle.cuts.proofs.Cutting.{Plain, split_join, join_split}
