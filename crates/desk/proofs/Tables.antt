@@ -19,8 +19,6 @@ is_within : (z : ℤ) → within z most_table_number ≡ true → Within most_ta
 is_within (pos n) e = let h = leb-true n most_table_number e in record { low = omega (arith, ints); high = omega (arith, ints) }
 is_within (negsuc n) e = let h = leb-true _ most_table_number e in record { low = omega (arith, ints); high = omega (arith, ints) }
 
-same_pos : (a b : ℕ) → pos a ≡ pos b → a ≡ b
-same_pos a b e = cc
 
 pub only_there : (t : List ℤ) (f : Factor) (b k : ℕ) → length t ≡ 8192 → up_to f.bus last_bus ≡ Some b → b ≤ last_bus
     → up_to f.column last_constraint ≡ Some k → k ≤ last_constraint → within f.number most_table_number ≡ true → OnlyThere t (set t (place b k) f.number) f
@@ -30,8 +28,8 @@ only_there t f b k l is-bus low-bus is-column low-column small =
     let laws = table_laws t in
     record {
       here = λ bus column e d.
-          let i : bus ≡ b = same_pos bus b (sym e ∙ p) in
-          let j : column ≡ k = same_pos column k (sym d ∙ q) in
+          let i : bus ≡ b = cc in
+          let j : column ≡ k = cc in
           ap (λ (x : ℕ). (table_grid (set t (place b k) f.number)).at x column) i
           ∙ ap (λ (x : ℕ). (table_grid (set t (place b k) f.number)).at b x) j
           ∙ laws.what_is_written_is_read b k f.number (omega arith) (omega arith) (omega arith) (is_within f.number small);

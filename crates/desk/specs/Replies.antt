@@ -9,6 +9,9 @@ use Rattle.script.specs.Written.{written}
 use Rattle.desk.specs.declared.replies.Reply.{Reply}
 use Rattle.desk.specs.declared.replies.Reply.TheVariants.{Passed, Answered, Weighed, Shown, Helped, Misread}
 
+abbrev pub refused_text : Refusal → List ℕ
+refused_text e = codes "refused " ++ (decimal (number e) ++ (codes ", " ++ meaning e))
+
 abbrev pub answer_text : Call → Result (Unit {0}) Refusal → List ℕ
 answer_text call (Ok _) = written call ++ codes ": granted"
 answer_text call (Err e) = written call ++ (codes ": refused " ++ (decimal (number e) ++ (codes ", " ++ meaning e)))

@@ -1,6 +1,6 @@
 // What a line of a session gets for an answer.
 ghost use Rattle.std.specs.Prelude.{Some};
-ghost use Rattle.desk.specs.Replies.{reply_text};
+ghost use Rattle.desk.specs.Replies.{refused_text, reply_text};
 
 use hour::calls::Call;
 use refusals::Refusal;
@@ -35,11 +35,23 @@ impl fmt::Display for Reply {
             Reply::Passed | Reply::Weighed(_, _) | Reply::Shown | Reply::Helped => Ok(()),
             Reply::Answered(call, Ok(())) => write!(f, "{}: granted", Written(call)),
             Reply::Answered(call, Err(refusal)) => {
-                let number = refusal.number();
-                let meaning = refusal.meaning();
-                write!(f, "{}: refused {number}, {meaning}", Written(call))
+                write!(f, "{}: {}", Written(call), Refused(*refusal))
             }
             Reply::Misread(fault) => write!(f, "{fault}"),
         }
+    }
+}
+
+// A refusal as an answer.
+#[derive(Drop)]
+pub struct Refused(pub Refusal);
+
+impl fmt::Display for Refused {
+    ghost output = { λ refused. Some (refused_text refused.0) };
+
+    fn fmt<W: fmt::Write>(&self, f: &mut fmt::Formatter<W>) -> fmt::Result {
+        let number = self.0.number();
+        let meaning = self.0.meaning();
+        write!(f, "refused {number}, {meaning}")
     }
 }

@@ -1,4 +1,5 @@
 // What a point's buses weigh, for a person.
+use crate::replies::Refused;
 use hour::book::Book;
 use std::fmt;
 use weighting::points::{Point, weigh};
@@ -21,11 +22,7 @@ impl fmt::Display for Weighing<'_> {
         }
         match weigh(self.book, self.point, self.constraint) {
             Ok(weights) => write!(f, ":\n{}", Rows(&weights)),
-            Err(refusal) => {
-                let number = refusal.number();
-                let meaning = refusal.meaning();
-                writeln!(f, ": refused {number}, {meaning}")
-            }
+            Err(refusal) => writeln!(f, ": {}", Refused(refusal)),
         }
     }
 }

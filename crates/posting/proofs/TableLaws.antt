@@ -15,7 +15,7 @@ is_inside : (bus column : ℕ) → bus < buses → column < columns → inside b
 is_inside bus column b c = and_from (ltb bus buses) (ltb column columns) (lt-ltb bus buses b) (lt-ltb column columns c)
 
 -- a number that a table may have is the number that counts, and another counts as 0
-counted_small : (z : ℤ) → Within most_table_number z → counted z ≡ z
+pub counted_small : (z : ℤ) → Within most_table_number z → counted z ≡ z
 counted_small z w = grind (arith, ints)
 
 counted_large : (z : ℤ) → (Within most_table_number z → ⊥) → counted z ≡ pos 0

@@ -1,6 +1,7 @@
 pub mod Limits
 pub mod Grids
 pub mod Tables
+pub mod Countable
 pub mod References
 pub mod Keeping
 pub mod Meanings

@@ -2,7 +2,9 @@
 ghost use Rattle.std.specs.Prelude.{◌≡◌};
 ghost use Rattle.posting.specs.Grids.{inside};
 ghost use Rattle.posting.specs.Tables.{place, counts};
+ghost use Rattle.posting.specs.Countable.{countable};
 
+// Not those of `hour`: a posting knows nothing of books.
 pub const BUSES: usize = 256;
 
 pub const COLUMNS: usize = 32;
@@ -32,4 +34,11 @@ pub fn counts(number: i32) -> bool
     ensures { result ≡ counts number }
 {
     (-MOST_TABLE_NUMBER..=MOST_TABLE_NUMBER).contains(&number)
+}
+
+// The number, where a table may have it.
+pub fn counted(number: i64) -> Option<i32>
+    ensures { result ≡ countable number }
+{
+    i32::try_from(number).ok().filter(|number| counts(*number))
 }

@@ -1,13 +1,13 @@
 -- A table that is written line by line.
 use Rattle.std.proofs.Common.{◌≡◌, ℕ, ◌+◌, ◌*◌, ◌/◌, ◌%◌, ◌<◌, ◌≤◌, ◌&&◌, eqb, ltb, List, [], ◌∷◌, ◌++◌, length, get_or, drop, set, ℤ, pos, Ok, Err, Result, sym, refl, ap, ◌∙◌, inl, inr, ⊎_elim, arith}
 use Rattle.std.proofs.lemmas.List.{length-set, get_or-set_same, get_or-set_other, get_or_append_left, drop_at, length-drop, length-append}
-use Rattle.std.proofs.lemmas.Int.{ints}
 use Rattle.std.proofs.lemmas.Bool.{cond-true, cond_both, and_from, and_parts, both_ways, lt-ltb, eq-eqb, cases_eq, cases_lt, ltb-true, eqb-true}
 use Rattle.faults.specs.declared.Spot.{Spot}
-use Rattle.posting.specs.Limits.{buses, columns, places, most_table_number}
-use Rattle.posting.specs.Grids.{Within, inside}
+use Rattle.posting.specs.Limits.{buses, columns, places}
+use Rattle.posting.specs.Grids.{inside}
 use Rattle.posting.specs.Tables.{counted}
 use Rattle.posting.specs.Meanings.{table_grid}
+use Rattle.posting.proofs.TableLaws.{counted_small}
 use Rattle.posting_text.specs.declared.entries.Entry.{Entry}
 use Rattle.posting_text.specs.Lines.{line_entry}
 use Rattle.posting_text.specs.Texts.{lines}
@@ -66,9 +66,6 @@ from_get_d table (l ∷ ls) k long h =
 from_length : (table : List ℤ) (ls : List (List ℕ)) → length (table_from table ls) ≡ length table
 from_length table [] = refl
 from_length table (l ∷ ls) = from_length (table_after table (line_entry l)) ls ∙ after_length table (line_entry l)
-
-counted_small : (z : ℤ) → Within most_table_number z → counted z ≡ z
-counted_small z w = grind (arith, ints)
 
 -- a table with the text's numbers means what the text means
 means : (text : List ℕ) (table : List ℤ) → ((k : ℕ) → k < places → get_or table k (pos 0) ≡ direct_number text (k % buses) (k / buses))

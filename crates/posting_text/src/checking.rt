@@ -9,11 +9,14 @@ use crate::entries::Entry;
 use crate::texts::past_line;
 use faults::{Fault, in_line};
 
-// The number of lines of a text that are all right, or the first fault.
-fn count_lines(text: &[u8]) -> Result<u64, Fault>
-    ensures { result ≡ checking text.now }
+// The number of lines of a text, all of them right, or its first fault. A text with no line is in order.
+pub fn check(text: &[u8]) -> Result<u64, Fault>
+    ensures value { result ≡ checking text.now }
+    ensures says { MatchResult result (InOrder text.now) (FirstFault text.now) }
+    ensures accepts { (es : List Entry) → AllByRecursion Right es → text.now ≡ text_of es → result ≡ Ok (length es) }
 {
-    // No `for` over the complete lines: what follows the last line end is faulted too.
+    // Not over the complete lines, as what follows the last line end is faulted too, nor over the pieces of `split_inclusive`, as
+    // `past_line` cuts its line off by itself.
     let mut rest = text;
     let mut count = 0;
     while !rest.is_empty() {
@@ -21,13 +24,4 @@ fn count_lines(text: &[u8]) -> Result<u64, Fault>
         count += 1;
     }
     Ok(count)
-}
-
-// The number of lines of a text, all of them right, or its first fault. A text with no line is in order.
-pub fn check(text: &[u8]) -> Result<u64, Fault>
-    ensures value { result ≡ checking text.now }
-    ensures says { MatchResult result (InOrder text.now) (FirstFault text.now) }
-    ensures accepts { (es : List Entry) → AllByRecursion Right es → text.now ≡ text_of es → result ≡ Ok (length es) }
-{
-    count_lines(text)
 }

@@ -3,7 +3,7 @@ ghost use Rattle.std.specs.Prelude.{◌≡◌};
 ghost use Rattle.posting_text.specs.Entries.{entry_of};
 
 use faults::{Spot, at};
-use posting::limits::{COLUMNS, counts};
+use posting::limits::{COLUMNS, counted};
 use refusals::Refusal;
 
 // The numbers in a line's fields.
@@ -33,11 +33,7 @@ impl Numbers {
             .filter(|column| usize::from(*column) < COLUMNS)
             .ok_or(Refusal::ConstraintOutside);
         let column = at(3, column)?;
-        let number = i32::try_from(self.value)
-            .ok()
-            .filter(|number| counts(*number))
-            .ok_or(Refusal::PostedOutside);
-        let number = at(4, number)?;
+        let number = at(4, counted(self.value).ok_or(Refusal::PostedOutside))?;
         Ok(Entry {
             bus,
             column,

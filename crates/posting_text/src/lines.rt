@@ -54,6 +54,7 @@ impl<'a> PostingLine<'a> {
 }
 
 // The numbers in the fields of a line, or the first field of wrong form.
+#[tactic(auto, unfolding(crate::specs::Lines::line_numbers))]
 pub fn read_numbers(line: &[u8]) -> Result<Numbers, Spot>
     ensures { result ≡ line_numbers line.now }
 {

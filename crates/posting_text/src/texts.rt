@@ -9,6 +9,7 @@ use cuts::pieces::cut;
 use faults::Spot;
 
 // The complete lines of a text, in order; what follows the last line end is none.
+// The library's `split` has its closure's type wherever it is named, and tells its pieces by runs.
 #[derive(Drop)]
 pub struct Lines<'a> {
     rest: &'a [u8],

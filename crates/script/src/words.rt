@@ -50,7 +50,8 @@ impl Word for Kind {
     ghost reads = { λ _ _ h. h };
 }
 
-// What is left of a line.
+// What is left of a line. Not `split_ascii_whitespace`, to which a form feed is a blank too, nor a filtered `split`, which has its
+// closure's type wherever it is named.
 #[derive(Drop)]
 pub struct Words<'a> {
     rest: &'a str,

@@ -12,6 +12,7 @@ ghost use Rattle.worked_hours.specs.WorkedHours.{WorkedHours};
 use hour::book::Book;
 use hour::calls::Call;
 use hour::records::Market;
+use posting::limits::PLACES;
 use posting::table::Table;
 use pricing::origins::Origin;
 use pricing::points::day_ahead_point;
@@ -32,7 +33,7 @@ pub fn worked_hours() -> Result<(i64, Origin), Refusal>
     day_ahead_point(&book, &Table::over(&factors), north)
 }
 
-// A fresh book after a list of calls.
+// A fresh book after a list of calls. `replay` of `hour` keeps their answers too, and so needs memory.
 fn worked_book(calls: &[Call]) -> Book
     ensures { entries result ≡ worked fresh calls.now }
 {
@@ -71,11 +72,11 @@ fn hour_n() -> [Call; 14]
 }
 
 // The shift factors of hour N.
-fn factors_n() -> [i32; 8192]
+fn factors_n() -> [i32; PLACES]
     ensures { result ≡ factors_n }
 {
     // Five of 8,192 entries, so they are written by place.
-    let mut factors = [0; 8192];
+    let mut factors = [0; PLACES];
     factors[0] = 400_000;
     factors[1] = 100_000;
     factors[2] = 200_000;

@@ -1,8 +1,8 @@
 use Rattle.std.proofs.Common.{◌≡◌, ◌+◌, ◌≤◌, length}
 use Rattle.cuts.specs.Cuts.{split}
-use Rattle.posting_text.specs.Texts.{check_from, checking}
-use Rattle.posting_text.proofs.checking.count_lines.Given as goal
 use Rattle.cuts.specs.Fields.{line_end}
+use Rattle.posting_text.specs.Texts.{check_from, checking}
+use Rattle.posting_text.proofs.checking.check.Given as goal
 
 -- checking what is left checks the text, and no more lines than bytes were read
 abbrev pub invariant-loop-rest : goal.invariant-loop-rest
