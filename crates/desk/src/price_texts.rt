@@ -58,3 +58,28 @@ fn origin_words(origin: Origin) -> &'static str
         Origin::Nothing => "no live weight",
     }
 }
+
+#[cfg(test)]
+mod tests {
+    use super::*;
+    use refusals::Refusal;
+    use std::test::Fail;
+
+    // A price below 0 keeps its sign, and its cents have two digits.
+    #[test]
+    fn price_in_words(rt: HostRuntime) -> Result<(), Fail> {
+        let price = PriceText::of(-25_105, Origin::Own);
+        let text = format!(in rt.alloc(); "{price}")?;
+        assert_eq!(rt; text.as_str(), "-$251.05, own weighting");
+        Ok(())
+    }
+
+    // A refusal is printed as its meaning.
+    #[test]
+    fn refusal_in_words(rt: HostRuntime) -> Result<(), Fail> {
+        let refusal = Refusal::NotPosted;
+        let text = format!(in rt.alloc(); "{refusal}")?;
+        assert_eq!(rt; text.as_str(), "constraint is not posted");
+        Ok(())
+    }
+}

@@ -8,8 +8,6 @@ use Rattle.hour.specs.Hour.{entries, bus_at, no_bus}
 use Rattle.hour.specs.declared.book.Book.{Book}
 use Rattle.hour.specs.declared.records.Bus.{Bus}
 use Rattle.hour.proofs.Tables.{all_by_get_d}
-use Rattle.std.specs.declared.ops.RangeInclusive.{RangeInclusive}
-use Rattle.std.specs.Range.{range_inclusive_len, range_inclusive_left}
 use Rattle.std.proofs.lemmas.List.{drop_more, length-drop}
 use Rattle.bus_set.specs.Sets.{SetOf, marked}
 use Rattle.bus_set.proofs.Sets.{marked_none, marked_turn, marked_all}
@@ -71,20 +69,6 @@ hub_bus_low b sound =
     let hub = leb b.hub_bus last_hub_bus in
     let rest = leb b.zone last_zone && (leb b.day_ahead.load most_load && leb b.real_time.load most_load) in
     omega (arith, leb-true b.hub_bus last_hub_bus (and_parts hub rest sound).0)
-
--- how many numbers are left
-abbrev pub left_of : RangeInclusive ℕ → ℕ
-left_of r = range_inclusive_left (λ a b. b - a) r
-
-pub left_first : (r : RangeInclusive ℕ) → r.start ≡ 0 → r.end ≡ 255 → r.exhausted ≡ false → left_of r ≡ 256
-left_first r first last more = rw (first, last, more) refl
-
-pub left_more : (r : RangeInclusive ℕ) → 0 < left_of r → r.exhausted ≡ false
-left_more r more = unspent r.exhausted more
-  where
-    unspent : (x : Bool) → 0 < range_inclusive_len (λ a b. b - a) r.start r.end x → x ≡ false
-    unspent true some = absurd (omega arith)
-    unspent false some = refl
 
 -- the bus whose turn it is among all, from bus 0 on, and those after it
 pub record Turn (book : Book) (n bus : ℕ) (x : Bus) (later : List Bus) : Type 0 where

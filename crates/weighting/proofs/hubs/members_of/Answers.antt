@@ -2,7 +2,8 @@ use Rattle.std.proofs.Common.{◌≡◌, ℕ, ◌+◌, ◌-◌, length, drop, sy
 use Rattle.std.specs.Slice.Iter.{iter_rest}
 use Rattle.std.proofs.lemmas.List.{length-drop}
 use Rattle.hour.specs.Hour.{entries, bus_at}
-use Rattle.weighting.proofs.Members.{left_of, left_first, left_more, sorted_none, sorted_next, sorted_all, its_turn}
+use Rattle.hour.proofs.Ranges.{left_of, left_first, left_more}
+use Rattle.weighting.proofs.Members.{sorted_none, sorted_next, sorted_all, its_turn}
 use Rattle.weighting.proofs.hubs.members_of.Goals as goal
 
 pub loop-bus-init : goal.loop-bus-init

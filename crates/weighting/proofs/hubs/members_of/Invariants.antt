@@ -1,7 +1,8 @@
 use Rattle.std.proofs.Common.{◌≡◌, ◌+◌, ◌-◌, ◌<◌, ◌≤◌, length, drop}
 use Rattle.std.specs.Slice.Iter.{iter_rest}
 use Rattle.hour.specs.Hour.{entries, bus_at}
-use Rattle.weighting.proofs.Members.{SortedTo, left_of}
+use Rattle.hour.proofs.Ranges.{left_of}
+use Rattle.weighting.proofs.Members.{SortedTo}
 use Rattle.weighting.proofs.hubs.members_of.Given as goal
 
 -- the buses so far, before those that are left
