@@ -19,7 +19,6 @@ is_within : (z : ℤ) → within z most_table_number ≡ true → Within most_ta
 is_within (pos n) e = let h = leb-true n most_table_number e in record { low = omega (arith, ints); high = omega (arith, ints) }
 is_within (negsuc n) e = let h = leb-true _ most_table_number e in record { low = omega (arith, ints); high = omega (arith, ints) }
 
-
 pub only_there : (t : List ℤ) (f : Factor) (b k : ℕ) → length t ≡ 8192 → up_to f.bus last_bus ≡ Some b → b ≤ last_bus
     → up_to f.column last_constraint ≡ Some k → k ≤ last_constraint → within f.number most_table_number ≡ true → OnlyThere t (set t (place b k) f.number) f
 only_there t f b k l is-bus low-bus is-column low-column small =
