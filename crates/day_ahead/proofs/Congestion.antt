@@ -30,7 +30,7 @@ module _ (m : Meaning) (factors : Grid) (book : Book) (k : ℕ) where
     unfolding contribution
     congestion_is = ap (λ (o : Option Constraint). contribution_at m factors (case_under book k) k (shadow_of o)) (sym posted)
 
-    weightless_is : w.total ≡ 0 → pos 0 ≡ contribution m factors book k
+    pub weightless_is : w.total ≡ 0 → pos 0 ≡ contribution m factors book k
     weightless_is none = sym (cond-true (eqb (m.total (case_under book k)) 0) (pos 0) _ (eq-eqb _ 0 (sym total ∙ none))) ∙ congestion_is
 
     rounded_is : (x q : ℤ) → x ≡ weighted_sum (weight_in w) factors k *ℤ c.shadow_price → q ≡ half_up x w.total → Nearest x w.total q → q ≡ contribution m factors book k

@@ -62,6 +62,10 @@ impl<W: Weighting, P: Posting> Pricing<'_, W, P> {
         let constraint = self.book.constraint(k)?;
         let case = Case::under(self.book, k)?;
         let weights = self.weighting.weigh(&case);
+        // Without weight the posting is not asked: a question may read a whole text.
+        if weights.total == 0 {
+            return None;
+        }
         let sum = weighted_sum(&weights, self.posting, usize::from(k));
         let product = i128::from(sum) * i128::from(constraint.shadow_price);
         half_up(product, weights.total)

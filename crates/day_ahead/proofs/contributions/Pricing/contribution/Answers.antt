@@ -4,7 +4,7 @@ use Rattle.std.proofs.lemmas.Int.{ints}
 use Rattle.posting.specs.Grids.{Within}
 use Rattle.weighted_sums.specs.Weighted.{weight_in, weighted_sum}
 use Rattle.day_ahead.specs.Prices.{case_under, contribution}
-use Rattle.day_ahead.proofs.Congestion.{none_is, divided_is, shadow_price_within, product_within, divided_within}
+use Rattle.day_ahead.proofs.Congestion.{none_is, weightless_is, divided_is, shadow_price_within, product_within, divided_within}
 use Rattle.day_ahead.proofs.contributions.Pricing.contribution.Given.{Over}
 use Rattle.day_ahead.proofs.contributions.Pricing.contribution.Goals as goal
 
@@ -14,6 +14,16 @@ returns-in_err-constraint-clause-value g c =
     let p = g.P.Posting.grid c.args.self.now.posting.now in
     let n = contribution m p c.args.self.now.book.now c.args.k in
     subst (λ (r : Option ℤ). MatchOption r (pos 0 ≡ n) (λ q. q ≡ n)) (sym c.from_residual.ensures) (none_is m p c.args.self.now.book.now c.args.k (sym c.in_err-constraint.ensures.value))
+
+pub returns-then-weights-eq0-clause-value : goal.returns-then-weights-eq0-clause-value
+returns-then-weights-eq0-clause-value g c =
+    let m = g.W.Weighting.meaning c.args.self.now.weighting.now in
+    let p = g.P.Posting.grid c.args.self.now.posting.now in
+    let book = c.args.self.now.book.now in
+    let k = c.args.k in
+    let at = c.weigh-weights.ensures in
+    let like = c.in_ok-case.ensures.case.alike in
+    weightless_is m p book k c.in_ok-constraint.constraint (sym c.in_ok-constraint.ensures.value) c.weigh-weights.result (at.weights (case_under book k) like) (at.total (case_under book k) like) c.if-weights-eq0.true
 
 product : (g : Over) (c : goal.After-half_up g) →
     to_z w128 (of_z w128 (to_z w128 (of_z w128 c.from-2.result) *ℤ to_z w128 (of_z w128 c.from-3.result))) ≡ c.weighted_sum-sum.result *ℤ c.in_ok-constraint.constraint.shadow_price
