@@ -1,5 +1,5 @@
 -- The members of every hub bus, sorted bus by bus.
-use Rattle.std.proofs.Common.{◌≡◌, ℕ, ◌+◌, ◌-◌, ◌<◌, ◌≤◌, drop, Bool, true, false, ◌&&◌, eqb, ltb, leb, List, [], ◌∷◌, length, get_or, set, replicate, sym, refl, ap, ap₂, ◌∙◌, subst, length-set, ⊎_elim, arith, get_or-set_other, get_or-set_same}
+use Rattle.std.proofs.Common.{◌≡◌, ℕ, ◌+◌, ◌<◌, ◌≤◌, Bool, true, false, ◌&&◌, eqb, ltb, leb, List, [], ◌∷◌, length, get_or, set, replicate, Iter, Bor, Some, Option, sym, refl, ap, ap₂, ◌∙◌, subst, length-set, ⊎_elim, arith, get_or-set_other, get_or-set_same}
 use lib.ListN.{get_or-replicate}
 use Rattle.std.proofs.lemmas.Bool.{and_right, cases_eq, cases_lt, eq-eqb, ne_eqb, lt-ltb, le-ltb, leb-true, and_parts}
 use Rattle.hour.specs.Limits.{last_hub_bus, last_zone, most_load}
@@ -8,7 +8,15 @@ use Rattle.hour.specs.Hour.{entries, bus_at, no_bus}
 use Rattle.hour.specs.declared.book.Book.{Book}
 use Rattle.hour.specs.declared.records.Bus.{Bus}
 use Rattle.hour.proofs.Tables.{all_by_get_d}
-use Rattle.std.proofs.lemmas.List.{drop_more, length-drop}
+use Rattle.std.specs.declared.iter.Enumerate.{Enumerate}
+use Rattle.std.specs.Iterator.{Yields}
+use Rattle.std.proofs.lemmas.Fn.{fronts}
+use Rattle.std.specs.Iterator.Adapters.{enumerate_source, enumerate_count, enumerate_steps}
+use Rattle.std.specs.Slice.Iter.{iter_rest}
+use Rattle.std.proofs.lemmas.Iterator.{YieldsList-from_slice}
+use Rattle.std.proofs.lemmas.Iterator.Consumers.{YieldsList-turn, YieldsList-from_enumerate}
+use Rattle.std.proofs.lemmas.List.{get_or_default}
+use Rattle.std.proofs.lemmas.List.FromFn.{length-enumerate_from, get_or-enumerate_from}
 use Rattle.bus_set.specs.Sets.{SetOf, marked}
 use Rattle.bus_set.proofs.Sets.{marked_none, marked_turn, marked_all}
 
@@ -54,14 +62,11 @@ sorted_more of rows b new size low row sorted is k lk = ⊎_elim
 pub sorted_all : (of : ℕ → ℕ) (rows : List (List ℕ)) (b : ℕ) → b ≡ 256 → SortedTo of rows b → (k : ℕ) → k < 156 → SetOf (λ i. eqb (of i) k) (get_or rows k [])
 sorted_all of rows b end sorted k lk = marked_all (λ i. eqb (of i) k) (get_or rows k []) b (omega arith) (sorted k lk).1
 
-no_rows : (of : ℕ → ℕ) → SortedTo of (replicate 156 (0 ∷ 0 ∷ 0 ∷ 0 ∷ [])) 0
-no_rows of k lk =
+pub sorted_none : (of : ℕ → ℕ) → SortedTo of (replicate 156 (0 ∷ 0 ∷ 0 ∷ 0 ∷ [])) 0
+sorted_none of k lk =
     let e : get_or (replicate 156 (0 ∷ 0 ∷ 0 ∷ 0 ∷ [])) k [] ≡ 0 ∷ 0 ∷ 0 ∷ 0 ∷ [] = get_or-replicate 156 k (0 ∷ 0 ∷ 0 ∷ 0 ∷ []) [] lk in
     let P : List ℕ → Type 0 = λ ws. (length ws ≡ 4) × SetOf (λ i. ltb i 0 && eqb (of i) k) ws in
     subst P (sym e) (refl, marked_none (λ i. eqb (of i) k))
-
-pub sorted_none : (of : ℕ → ℕ) (b : ℕ) → 0 ≡ b → SortedTo of (replicate 156 (0 ∷ 0 ∷ 0 ∷ 0 ∷ [])) b
-sorted_none of b none = subst (SortedTo of (replicate 156 (0 ∷ 0 ∷ 0 ∷ 0 ∷ []))) none (no_rows of)
 
 -- the hub bus of a bus within its limits has a row
 pub hub_bus_low : (b : Bus) → bus_sound b ≡ true → b.hub_bus < 156
@@ -70,26 +75,27 @@ hub_bus_low b sound =
     let rest = leb b.zone last_zone && (leb b.day_ahead.load most_load && leb b.real_time.load most_load) in
     omega (arith, leb-true b.hub_bus last_hub_bus (and_parts hub rest sound).0)
 
--- the bus whose turn it is among all, from bus 0 on, and those after it
-pub record Turn (book : Book) (n bus : ℕ) (x : Bus) (later : List Bus) : Type 0 where
+-- the bus whose turn it is among all, from bus 0 on
+pub record Turn (book : Book) (n bus : ℕ) (x : Bus) : Type 0 where
   pub low : n < 256
   pub number : bus ≡ n
   pub hub_bus : x.hub_bus ≡ (bus_at (entries book) n).hub_bus
   pub row : (bus_at (entries book) n).hub_bus < 156
-  pub rest : later ≡ drop (n + 1) book.buses
 
-pub its_turn : (book : Book) (n bus : ℕ) (x : Bus) (rest later : List Bus) → rest ≡ drop n book.buses → rest ≡ x ∷ later → bus ≡ n → Turn book n bus x later
-its_turn book n bus x rest later left is number =
-    let e : drop n book.buses ≡ x ∷ later = sym left ∙ is in
-    let inside : n < length book.buses = omega (arith, ap length e, length-drop n book.buses) in
-    let first : get_or book.buses n no_bus ∷ drop (n + 1) book.buses ≡ x ∷ later = sym (drop_more book.buses n no_bus inside) ∙ e in
-    let at : x ≡ bus_at (entries book) n = cc in
+pub its_turn : (book : Book) (s : Enumerate (Iter Bus)) → iter_rest (enumerate_source s) ≡ book.buses → enumerate_count s ≡ 0
+    → (so_far : List (ℕ × Bor Bus)) (t : Enumerate (Iter Bus)) → Yields (enumerate_steps fronts) s so_far t
+    → (r : Option (ℕ × Bor Bus)) (u : Enumerate (Iter Bus)) (bus : ℕ) (x : Bor Bus) → r ≡ Some (bus, x) → enumerate_steps fronts t r u → Turn book (length so_far) bus x.now
+its_turn book s all none so_far t by r u bus x is step =
+    let n = length so_far in
+    let turn = YieldsList-turn (YieldsList-from_enumerate (YieldsList-from_slice book.buses all) none) so_far t by r u (bus, x) is step in
+    let inside : n < length book.buses = omega (arith, turn.0, length-enumerate_from 0 book.buses) in
+    let e = turn.1 ∙ get_or-enumerate_from 0 book.buses n (bus, x.now) inside in
+    let at : x.now ≡ bus_at (entries book) n = ap (λ (p : ℕ × Bus). p.1) e ∙ get_or_default book.buses n x.now no_bus inside in
     record {
       low = omega (arith, inside, book.size);
-      number = number;
+      number = omega (arith, ap (λ (p : ℕ × Bus). p.0) e);
       hub_bus = ap (λ (y : Bus). y.hub_bus) at;
       row = hub_bus_low (bus_at (entries book) n) (all_by_get_d bus_sound book.buses n no_bus inside book.sound);
-      rest = cc;
     }
 
 -- the bus whose turn it is, marked in its row

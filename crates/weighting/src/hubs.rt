@@ -158,9 +158,11 @@ pub fn members_of(book: &Book) -> [BusSet; 156]
 {
     // Each bus goes to the row of its hub bus, so the rows are filled and not collected.
     let mut all = [[0u64; 4]; 156];
-    for (bus, record) in (0..=255u8).zip(book.buses()) {
+    // Numbered as in `Book::set_of`, and for its reason.
+    for (bus, record) in book.buses().enumerate() {
         let k = usize::from(record.hub_bus);
-        all[k] = marked(all[k], bus, true);
+        // A bus below 256 fits: an error to take apart would be no plainer.
+        all[k] = marked(all[k], bus as u8, true);
     }
     all
 }

@@ -28,9 +28,10 @@ impl Book {
         ensures { (p : Bus → Bool) → ((x : Bus) (r : Bool) → FnReturnsAt F.Fn test x r → r ≡ p x) → SetOf (λ b. p (bus_at (entries self.now) b)) result }
     {
         let mut set = empty();
-        for (i, bus) in (0..=255u8).zip(self.buses.iter()) {
-            // The checker wants an array from a call in a place of its own.
-            let next = marked(set, i, test(bus));
+        // Numbered by `enumerate` and not by a range of bytes, whose three tests for each bus made a summary a quarter slower.
+        for (i, bus) in self.buses.iter().enumerate() {
+            // A place of the table is below 256, so the cast is proved to lose nothing; the checker wants an array from a call in a place of its own.
+            let next = marked(set, i as u8, test(bus));
             set = next;
         }
         set
