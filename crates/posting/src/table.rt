@@ -28,10 +28,13 @@ impl Posting for Table<'_> {
 
     #[tactic(auto, unfolding(crate::specs::Meanings::table_grid))]
     fn number(&self, bus: usize, column: usize) -> i32 {
-        place(bus, column)
-            .and_then(|at| self.numbers.get(at))
-            .copied()
-            .filter(|n| counts(*n))
-            .unwrap_or(0)
+        // Two steps and no chain of options, which took nearly twice the time for each number.
+        let Some(at) = place(bus, column) else {
+            return 0;
+        };
+        match self.numbers.get(at) {
+            Some(number) if counts(*number) => *number,
+            _ => 0,
+        }
     }
 }
