@@ -30,7 +30,7 @@ grow_same {a} {b} g e = subst (λ t. Grows t a b) e g
 
 -- the outage lines of one bus more, with its own where it is out
 module _ (k n : ℕ) (out : ℕ → Bool) {a b : Draft} (before : Grows (outage_rows k out n) a b) where
-  grow_outage : {c : Draft} → Grows (cond (out n) (row.Outage (pos k) (pos n) ∷ []) []) b c → Grows (outage_rows k out (n + 1)) a c
+  pub grow_outage : {c : Draft} → Grows (cond (out n) (row.Outage (pos k) (pos n) ∷ []) []) b c → Grows (outage_rows k out (n + 1)) a c
   unfolding outage_rows
   grow_outage this = rw add-one (grow_then before this)
 

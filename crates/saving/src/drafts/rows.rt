@@ -1,9 +1,9 @@
 // The lines of a book, added to a draft in their order.
-ghost use Rattle.std.specs.Prelude.{◌≡◌, ◌≤◌, length};
+ghost use Rattle.std.specs.Prelude.{◌≡◌, ◌≤◌, [], length};
 ghost use Rattle.std.specs.Slice.Iter.{iter_rest};
 ghost use Rattle.hour.specs.Hour.{entries};
 ghost use Rattle.page.specs.Pages.{written};
-ghost use Rattle.saved_rows.specs.Rows.{indexed, lambda_rows};
+ghost use Rattle.saved_rows.specs.Rows.{indexed, lambda_rows, all_rows};
 ghost use Rattle.saved.specs.Texts.{saved_text};
 ghost use Rattle.saving.specs.Growing.{Grows};
 
@@ -14,18 +14,18 @@ use saved_rows::row::Row;
 use std::slice;
 
 impl Draft {
-    // The text of a book. Its last line counts those before it.
-    pub fn of(book: &Book) -> Draft
-        ensures { written result.page ≡ saved_text (entries book.now) }
+    // All lines of a book. The last one counts those before it.
+    pub fn push_book(&mut self, book: &Book)
+        requires { self.old.lines ≡ 0 }
+        ensures lines { Grows (all_rows (entries book.now)) self.old self.new }
+        ensures text { written self.old.page ≡ [] → written self.new.page ≡ saved_text (entries book.now) }
     {
-        let mut draft = Draft::empty();
-        draft.push_table(book.buses());
-        draft.push_lambda(book.lambda());
-        draft.push_table(book.constraints());
-        draft.push_table(book.runs());
-        let count = i64::from(draft.lines);
-        draft.push_row(Row::End { count });
-        draft
+        self.push_table(book.buses());
+        self.push_lambda(book.lambda());
+        self.push_table(book.constraints());
+        self.push_table(book.runs());
+        let count = i64::from(self.lines);
+        self.push_row(Row::End { count });
     }
 
     #[tactic(auto, using(crate::proofs::Growing::grow_none))]

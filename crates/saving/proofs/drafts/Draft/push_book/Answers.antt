@@ -10,20 +10,24 @@ use Rattle.saving.specs.Adding.{longest}
 use Rattle.saving.specs.Growing.{Grows}
 use Rattle.saving.proofs.Growing.{grow_then, grow_same}
 use Rattle.saving.proofs.Lengths.{saved_fits}
-use Rattle.saving.proofs.drafts.Draft.of.Goals as goal
+use Rattle.saving.proofs.drafts.Draft.push_book.Goals as goal
 
-pub returns : goal.returns
-unfolding saved_text
-returns c =
+pub returns-clause-lines : goal.returns-clause-lines
+returns-clause-lines c =
     let book = c.args.book.now in
-    let before : Grows (rows (entries book)) c.empty-draft.result c.push_table-3.new.self =
+    let before : Grows (rows (entries book)) c.args.self.now c.push_table-3.new.self =
     grow_then (grow_same c.push_table.ensures (ap (indexed bus_rows 0) c.buses.ensures.value))
     (grow_then (grow_same c.push_lambda.ensures (ap lambda_rows c.lambda.ensures.value))
     (grow_then (grow_same c.push_table-2.ensures (ap (indexed constraint_rows 0) c.constraints.ensures.value))
     (grow_same c.push_table-3.ensures (ap (indexed run_row 0) c.runs.ensures.value)))) in
-    let count : c.push_table-3.new.self.lines ≡ length (rows (entries book)) = omega (arith, before.count, (all_writable book).0) in
+    let count : c.push_table-3.new.self.lines ≡ length (rows (entries book)) = omega (arith, before.count, c.requires, (all_writable book).0) in
     let last : Grows (row.End (pos c.push_table-3.new.self.lines) ∷ []) c.push_table-3.new.self c.push_row.new.self = search rules in
-    let all = grow_then before (grow_same last (ap (λ (n : ℕ). row.End (pos n) ∷ []) count)) in
-    all.text.text
-    ∙ ap (λ (t : List ℕ). take longest (t ++ flat_map line_text (all_rows (entries book)))) c.empty-draft.ensures.text
+    grow_then before (grow_same last (ap (λ (n : ℕ). row.End (pos n) ∷ []) count))
+
+pub returns-clause-text : goal.returns-clause-text
+unfolding saved_text
+returns-clause-text c = λ blank.
+    let book = c.args.book.now in
+    (returns-clause-lines c).text.text
+    ∙ ap (λ (t : List ℕ). take longest (t ++ flat_map line_text (all_rows (entries book)))) blank
     ∙ take_all longest (saved_text (entries book)) (saved_fits book)
