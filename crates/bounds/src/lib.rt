@@ -16,9 +16,16 @@ pub fn up_to(value: i64, last: u16, refusal: Refusal) -> Result<u16, Refusal>
         .ok_or(refusal)
 }
 
+// Whether the value is at most `most` away from 0.
+pub fn is_within(value: i64, most: u64) -> bool
+    ensures { result ≡ within value most }
+{
+    value.unsigned_abs() <= most
+}
+
 // The value is at most `most` away from 0, or the refusal.
 pub fn within(value: i64, most: u64, refusal: Refusal) -> Result<(), Refusal>
     ensures { MatchResult result (λ _. within value most ≡ true) (λ e. (within value most ≡ false) × (e ≡ refusal)) }
 {
-    (value.unsigned_abs() <= most).then_some(()).ok_or(refusal)
+    is_within(value, most).then_some(()).ok_or(refusal)
 }

@@ -1,9 +1,10 @@
 // Prices as a dispatcher reads them.
-ghost use Rattle.std.specs.Prelude.{◌≡◌, Some};
+ghost use Rattle.std.specs.Prelude.{◌≡◌, IfOk, Some, string_bytes};
 ghost use Rattle.desk.specs.PriceLaws.{Tells};
 ghost use Rattle.desk.specs.PriceTexts.{dollars, origin_words, price_text};
 
 use pricing::origins::Origin;
+use std::alloc::{AllocError, Global};
 use std::fmt;
 
 // A price in dollars and cents, and its origin.
@@ -33,6 +34,16 @@ impl fmt::Display for PriceText {
         let origin = origin_words(self.origin);
         write!(f, "{sign}{dollars}, {origin}")
     }
+}
+
+// A price in words as a string. No two prices are written alike.
+#[tactic(auto, using(crate::proofs::Amounts::tells))]
+pub fn price_text(heap: Global, cents: i64, origin: Origin) -> Result<String, AllocError>
+    ensures value { IfOk result (λ s. string_bytes s ≡ price_text cents origin) }
+    ensures tells { Tells cents }
+{
+    let text = PriceText::of(cents, origin);
+    format!(in heap; "{text}")
 }
 
 // Cents as dollars, with two digits of cents.

@@ -1,11 +1,12 @@
 // What a line of a session gets for an answer.
-ghost use Rattle.std.specs.Prelude.{Some};
+ghost use Rattle.std.specs.Prelude.{◌≡◌, IfOk, Some, string_bytes};
 ghost use Rattle.desk.specs.Replies.{refused_text, reply_text};
 
 use hour::calls::Call;
 use refusals::Refusal;
 use script::commands::NotACall;
 use script::writing::Written;
+use std::alloc::{AllocError, Global};
 use std::fmt;
 use weighting::points::Point;
 
@@ -23,6 +24,15 @@ pub enum Reply {
     Helped,
     // No call.
     Misread(NotACall),
+}
+
+impl Reply {
+    // The reply in words, as a string.
+    pub fn text(&self, heap: Global) -> Result<String, AllocError>
+        ensures { IfOk result (λ s. string_bytes s ≡ reply_text self.now) }
+    {
+        format!(in heap; "{self}")
+    }
 }
 
 // The reply in words: the call as it was understood, with its answer, or what is wrong with the line.

@@ -1,5 +1,5 @@
 // Calls as lines of a script.
-ghost use Rattle.std.specs.Prelude.{◌≡◌, Some, Ok};
+ghost use Rattle.std.specs.Prelude.{◌≡◌, IfOk, Some, Ok, string_bytes};
 ghost use Rattle.std.specs.Fmt.{WritesOnOk};
 ghost use Rattle.script.specs.Commands.{command};
 ghost use Rattle.script.specs.Words.{words};
@@ -7,6 +7,7 @@ ghost use Rattle.script.specs.Written.{written};
 
 use crate::commands::Command;
 use hour::calls::Call;
+use std::alloc::{AllocError, Global};
 use std::fmt;
 
 // A call as its line.
@@ -17,13 +18,30 @@ impl fmt::Display for Written<'_> {
     ghost output = { λ line. Some (written line.0.now) };
 
     fn fmt<W: fmt::Write>(&self, f: &mut fmt::Formatter<W>) -> fmt::Result {
-        write(self.0, f)
+        write_to(self.0, f)
     }
 }
 
+// The call's line as a string, which is read back as the call.
+#[tactic(auto, using(crate::proofs::Backs::back))]
+pub fn write(heap: Global, call: &Call) -> Result<String, AllocError>
+    ensures made { IfOk result (λ s. string_bytes s ≡ written call.now) }
+    ensures back { command (words (written call.now)) ≡ Ok (Some (Command.Call call.now)) }
+{
+    reads_back(*call);
+    let line = Written(call);
+    format!(in heap; "{line}")
+}
+
+// A call's line is read back as the call. Nothing is done: a call by value carries the ranges of its numbers, which the law needs.
+#[tactic(auto, using(crate::proofs::Backs::back))]
+fn reads_back(call: Call)
+    ensures { command (words (written call)) ≡ Ok (Some (Command.Call call)) }
+{}
+
 // Writes the call's line, which is read back as the call.
 #[tactic(auto, using(crate::proofs::Backs::back))]
-pub fn write<W: fmt::Write>(call: &Call, f: &mut fmt::Formatter<W>) -> fmt::Result
+pub fn write_to<W: fmt::Write>(call: &Call, f: &mut fmt::Formatter<W>) -> fmt::Result
     ensures made { WritesOnOk W.write_str_gives f.old result (written call.now) f.new }
     ensures back { command (words (written call.now)) ≡ Ok (Some (Command.Call call.now)) }
 {
