@@ -1,3 +1,4 @@
+pub mod Factors
 pub mod Living
 pub mod Congestion
 pub mod Nearness

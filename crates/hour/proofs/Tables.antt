@@ -2,14 +2,14 @@
 use Rattle.std.proofs.Common.{◌≡◌, ℕ, zero, suc, ◌+◌, ◌<◌, ◌≤◌, Bool, true, false, cond, eqb, leb, List, [], ◌∷◌, ◌++◌, length, get_or, take, drop, set, ℤ, pos, negsuc, Some, None, sum_by, Option, sym, refl, ap, ◌∙◌, subst, ⊎_elim, le_of_suc-le-suc, not-suc-le-zero, arith}
 use Rattle.bus_set.specs.Sets.{four_words}
 use Rattle.std.specs.List.{remove}
-use Rattle.std.proofs.lemmas.Bool.{and_parts, and_from, eqb-true, eq-eqb, leb-true, cond-true, cond-false, cases_Bool}
+use Rattle.std.proofs.lemmas.Bool.{and_parts, and_from, eqb-true, eq-eqb, le-leb, leb-true, cond-true, cond-false, cases_Bool}
 use Rattle.std.proofs.lemmas.Bool.Decides.{nat_tests}
 use Rattle.std.proofs.lemmas.List.Sums.{sum_by-append, sum_by-cons, sum_by-set}
 use Rattle.std.proofs.lemmas.List.{set_split, set-get_or}
-use Rattle.hour.specs.Sound.{all_by, when_some, constraint_sound, in_hub_bus, hub_bus_size, FewPerHubBus}
-use Rattle.bounds.specs.Bounds.{up_to}
+use Rattle.hour.specs.Sound.{all_by, when_some, constraint_sound, in_hub_bus, hub_bus_size, FewPerHubBus, bus_sound, run_sound}
+use Rattle.bounds.specs.Bounds.{up_to, within}
 use Rattle.hour.specs.Hour.{Hour, out_of}
-use Rattle.hour.specs.Steps.{is_full, other_buses, with_status, with_load}
+use Rattle.hour.specs.Steps.{is_full, other_buses, placed_in, with_status, with_load}
 use Rattle.hour.specs.declared.records.Market.{Market}
 use Rattle.hour.specs.declared.records.Market.TheVariants.{DayAhead, RealTime}
 use Rattle.hour.specs.declared.records.Bus.{Bus}
@@ -62,6 +62,10 @@ few_put bs i b l few room h p =
     omega (arith, old, new, none, was))
     (cases_Bool (eqb b.hub_bus h))
 
+-- a sound bus stays sound where it is placed within the limits
+pub placed_sound : (b : Bus) (k z : ℕ) → bus_sound b ≡ true → k ≤ 155 → z ≤ 16 → bus_sound (placed_in b k z) ≡ true
+placed_sound b k z h hk hz = grind (arith, nat_tests)
+
 -- a bus that stays in its hub bus
 pub few_kept : (bs : List Bus) (i : ℕ) (b d : Bus) → i < length bs → FewPerHubBus bs → b.hub_bus ≡ (get_or bs i d).hub_bus → FewPerHubBus (set bs i b)
 few_kept bs i b d l few e =
@@ -71,9 +75,19 @@ few_kept bs i b d l few e =
     let one : f (get_or bs i d) ≡ 1 = cond-true (in_hub_bus k (get_or bs i d)) 1 0 (eq-eqb _ _ (sym e)) in
     omega (arith, sum_by_removed f bs i d l, few k p, one))
 
+-- a sound bus stays sound with any status
+pub status_sound : (b : Bus) (m : Market) (v : Bool) → bus_sound b ≡ true → bus_sound (with_status b m v) ≡ true
+status_sound b DayAhead v h = h
+status_sound b RealTime v h = h
+
 pub status_hub : (b : Bus) (m : Market) (v : Bool) → (with_status b m v).hub_bus ≡ b.hub_bus
 status_hub b DayAhead v = refl
 status_hub b RealTime v = refl
+
+-- and with a load within its limit
+pub load_sound : (b : Bus) (m : Market) (v : ℕ) → v ≤ 10000 → bus_sound b ≡ true → bus_sound (with_load b m v) ≡ true
+load_sound b DayAhead v l h = grind (arith, nat_tests)
+load_sound b RealTime v l h = grind (arith, nat_tests)
 
 pub load_hub : (b : Bus) (m : Market) (v : ℕ) → (with_load b m v).hub_bus ≡ b.hub_bus
 load_hub b DayAhead v = refl
@@ -93,6 +107,10 @@ up_to_low (pos k) m n h = ⊎_elim
     (λ (e : leb k m ≡ false). let s : None ≡ Some n = sym (cond-false (leb k m) (Some k) None e) ∙ h in let z : ◌≡◌ {A = ℕ} 0 1 = cc in absurd (omega arith))
     (cases_Bool (leb k m))
 up_to_low (negsuc k) m n h = let z : ◌≡◌ {A = ℕ} 0 1 = cc in absurd (omega arith)
+
+-- a run of a second or more, with both adders within their limit, is sound
+pub run_sound_from : (n : ℕ) (a r : ℤ) → 1 ≤ n → within a 1000000 ≡ true → within r 1000000 ≡ true → run_sound (record { seconds = n; reserve_adder = a; reliability_adder = r }) ≡ true
+run_sound_from n a r hn ha hr = and_from _ _ (le-leb 1 n hn) (and_from _ _ ha hr)
 
 pub full_room : (h : Hour) (i k : ℕ) → is_full h i k ≡ false → 0 < k → other_buses h i k < 8
 full_room h i k e p = grind (arith, nat_tests)

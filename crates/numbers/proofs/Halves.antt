@@ -1,6 +1,7 @@
 -- What `half_up` gives: the one nearest number, halves toward the higher.
-use Rattle.std.proofs.Common.{◌≡◌, ℕ, zero, suc, ◌*◌, ◌<◌, ℤ, pos, ◌+ℤ◌, ◌-ℤ◌, ◌*ℤ◌, ◌≤ℤ◌, ◌<ℤ◌, sym, refl, ap, ◌∙◌, arith}
+use Rattle.std.proofs.Common.{◌≡◌, ℕ, zero, suc, ◌*◌, ◌<◌, ◌≤◌, ℤ, pos, negsuc, ◌+ℤ◌, ◌-ℤ◌, ◌*ℤ◌, ◌≤ℤ◌, ◌<ℤ◌, sym, refl, ap, ◌∙◌, mul-le-mul_left, arith, SFits}
 use lib.IntN.{*ℤ_comm, zero-*ℤ}
+use mir.Syntax.{w128}
 use Rattle.std.specs.Int.{int_div_euclid, int_rem_euclid}
 use Rattle.std.proofs.lemmas.Int.{ints}
 use Rattle.numbers.specs.Rounding.{half_up, Nearest, HalvesRise}
@@ -45,16 +46,27 @@ pub halves_rise : HalvesRise
 unfolding half_up
 halves_rise = record { minus_half = refl; half = refl; zero_stays = refl }
 
--- with less than half of the divisor left, the quotient
-pub below_half : (n : ℤ) (d : ℕ) → 0 < d → (pos 2 *ℤ int_rem_euclid n (pos d)) <ℤ pos d → Nearest n d (int_div_euclid n (pos d))
-below_half n d h less = record { low = omega (arith, ints, parts n d h, rest_low n d); high = omega (arith, ints, parts n d h) }
+-- from a quotient and a rest: with less than half of the divisor left, the quotient
+pub rest_below : (n : ℤ) (d : ℕ) (q s : ℤ) → n ≡ (q *ℤ pos d) +ℤ s → pos 0 ≤ℤ s → (pos 2 *ℤ s) <ℤ pos d → Nearest n d q
+rest_below n d q s e low less = record { low = omega (arith, ints); high = omega (arith, ints) }
 
 -- with half of it or more, the next
-pub above_half : (n : ℤ) (d : ℕ) → 0 < d → pos d ≤ℤ (pos 2 *ℤ int_rem_euclid n (pos d)) → Nearest n d (int_div_euclid n (pos d) +ℤ pos 1)
-above_half n d h more =
-    let q = int_div_euclid n (pos d) in
+pub rest_above : (n : ℤ) (d : ℕ) (q s : ℤ) → n ≡ (q *ℤ pos d) +ℤ s → s <ℤ pos d → pos d ≤ℤ (pos 2 *ℤ s) → Nearest n d (q +ℤ pos 1)
+rest_above n d q s e high more =
     let f : (q +ℤ pos 1) *ℤ pos d ≡ (q *ℤ pos d) +ℤ (pos 1 *ℤ pos d) = I.add_mul q (pos 1) (pos d) in
-    record { low = omega (arith, ints, parts n d h, f); high = omega (arith, ints, parts n d h, rest_high n d h, f) }
+    record { low = omega (arith, ints); high = omega (arith, ints) }
+
+-- the same of the quotient and the rest that the library's division gives
+pub below_half : (n : ℤ) (d : ℕ) → 0 < d → (pos 2 *ℤ int_rem_euclid n (pos d)) <ℤ pos d → Nearest n d (int_div_euclid n (pos d))
+below_half n d h less = rest_below n d (int_div_euclid n (pos d)) (int_rem_euclid n (pos d)) (parts n d h) (rest_low n d) less
+
+pub above_half : (n : ℤ) (d : ℕ) → 0 < d → pos d ≤ℤ (pos 2 *ℤ int_rem_euclid n (pos d)) → Nearest n d (int_div_euclid n (pos d) +ℤ pos 1)
+above_half n d h more = rest_above n d (int_div_euclid n (pos d)) (int_rem_euclid n (pos d)) (parts n d h) (rest_high n d h) more
+
+-- a quotient by 2 or more has room for the next
+pub next_fits : (n : ℤ) (d : ℕ) (q s : ℤ) → n ≡ (q *ℤ pos d) +ℤ s → pos 0 ≤ℤ s → 2 ≤ d → SFits w128 n → SFits w128 q → SFits w128 (q +ℤ pos 1)
+next_fits n d (pos a) s e low two fits quotient = let m = mul-le-mul_left a two in omega (arith, ints)
+next_fits n d (negsuc a) s e low two fits quotient = omega (arith, ints)
 
 -- only by a divisor that is not 0
 pub nearest_some : (n : ℤ) (d : ℕ) (r : ℤ) → Nearest n d r → 0 < d

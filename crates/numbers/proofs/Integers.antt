@@ -1,6 +1,6 @@
 -- Laws of sums and products of whole numbers.
-use Rattle.std.proofs.Common.{◌≡◌, ℕ, ◌+◌, ◌*◌, ℤ, ◌+ℤ◌, ◌-ℤ◌, ◌*ℤ◌, ap, arith}
-use lib.IntN.{*ℤ_comm}
+use Rattle.std.proofs.Common.{◌≡◌, ℕ, ◌+◌, ◌*◌, ℤ, pos, ◌+ℤ◌, ◌-ℤ◌, ◌*ℤ◌, neg_ℤ, sym, ap, ◌∙◌, arith}
+use lib.IntN.{zero-*ℤ, *ℤ_comm, +ℤ_invr}
 use borrow.Author.Differences.{up, down, product_is}
 use Rattle.std.proofs.lemmas.Int.{ints}
 
@@ -12,6 +12,13 @@ add_mul a b k =
 
 pub mul_add : (k a b : ℤ) → k *ℤ (a +ℤ b) ≡ (k *ℤ a) +ℤ (k *ℤ b)
 mul_add k a b = omega (arith, ints, *ℤ_comm k (a +ℤ b), add_mul a b k, *ℤ_comm k a, *ℤ_comm k b)
+
+from_sum : (x y : ℤ) → x +ℤ y ≡ pos 0 → y ≡ neg_ℤ x
+from_sum x y e = omega (arith, ints)
+
+-- the product of the negative is the negative of the product
+pub neg_mul : (a k : ℤ) → neg_ℤ a *ℤ k ≡ neg_ℤ (a *ℤ k)
+neg_mul a k = from_sum (a *ℤ k) (neg_ℤ a *ℤ k) (sym (add_mul a (neg_ℤ a) k) ∙ ap (λ (x : ℤ). x *ℤ k) (+ℤ_invr a) ∙ zero-*ℤ k)
 
 pub sub_mul : (a b k : ℤ) → (a -ℤ b) *ℤ k ≡ (a *ℤ k) -ℤ (b *ℤ k)
 sub_mul a b k = let e : (a -ℤ b) +ℤ b ≡ a = omega (arith, ints) in omega (arith, ints, add_mul (a -ℤ b) b k, ap (λ (x : ℤ). x *ℤ k) e)

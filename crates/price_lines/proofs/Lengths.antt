@@ -13,7 +13,7 @@ signed_short z fits = search (rules, length_signed_le 19)
 pub cents_short : (cents : ℤ) (letter : ℕ) → SFits w64 cents → length (signed_decimal cents ++ (44 ∷ letter ∷ [])) ≤ 22
 cents_short cents letter fits = omega (arith, length-append (signed_decimal cents) (44 ∷ letter ∷ []), signed_short cents fits)
 
-number_small : (e : Refusal) → number e < 100
+pub number_small : (e : Refusal) → number e < 100
 number_small BusOutside = lit< tt
 number_small HubBusOutside = lit< tt
 number_small ZoneOutside = lit< tt

@@ -6,7 +6,7 @@ use Rattle.std.specs.Char.{IsScalar}
 use Rattle.std.specs.Str.{NoCharPasses}
 use Rattle.std.specs.List.{AllByRecursion as All}
 use Rattle.std.proofs.ByRecursion.{All-from_get_or}
-use Rattle.std.proofs.lemmas.List.{take-append-drop, length-drop}
+use Rattle.std.proofs.lemmas.List.{take-append-drop, length-append, length-drop}
 use Rattle.std.proofs.lemmas.Str.Pattern.{drop_at_char}
 use Rattle.std.specs.Option.{option_or}
 use Rattle.std.specs.Bool.{then_some}
@@ -79,6 +79,10 @@ parted s w t (i, j, finds, p, q, _, _, _) = by_first (finds blank (λ _. refl))
       parts = sym (take-append-drop i s) ∙ (λ k. sym p k ++ (drop_at_char c s i j at (blank_ascii c e) ∙ ap (λ u. c ∷ u) (sym q)) k);
       plain = subst (λ (u : List ℕ). Plain u) (sym p) (plain_without (take i s) none);
     }
+
+-- what follows the first blank is shorter than the text
+pub shorter : (s w t : List ℕ) → Parted s w t → length t < length s
+shorter s w t p = omega (arith, simp length-append at (ap length p.parts))
 
 pub words_parted : (s w t : List ℕ) → Parted s w t → 0 < length w → words s ≡ w ∷ words t
 words_parted s w t p l = ap words p.parts ∙ words_append w p.by t p.plain p.is_blank l

@@ -1,5 +1,5 @@
 -- Weighted sums stay small on the way, and a number counts only where there is weight.
-use Rattle.std.proofs.Common.{◌≡◌, ℕ, zero, suc, ◌+◌, ◌*◌, ◌<◌, ◌≤◌, ℤ, pos, ◌*ℤ◌, sym, ap, ◌∙◌, arith}
+use Rattle.std.proofs.Common.{◌≡◌, ℕ, zero, suc, ◌+◌, ◌<◌, ◌≤◌, ℤ, pos, ◌*ℤ◌, sym, ap, ◌∙◌, arith}
 use lib.IntN.{zero-*ℤ}
 use Rattle.posting.specs.Grids.{Within, Grid}
 use Rattle.weighting.specs.Sums.{sum_below}
@@ -9,7 +9,7 @@ use Rattle.weighting.specs.declared.weights.Weights.{Weights}
 use Rattle.weighted_sums.specs.Sums.{sum_z}
 use Rattle.weighted_sums.specs.Weighted.{weight_in, weighted_sum, most_weighted}
 use Rattle.weighted_sums.proofs.Sums.{sum_z_same}
-use Rattle.weighted_sums.proofs.Withins.{within_more, within_mul, within_pos, within_sum}
+use Rattle.weighted_sums.proofs.Withins.{weighted_within, product_within as any_product}
 
 module _ (w : Weights) where
   small : sum_below (weight_in w) 256 ≤ most_total
@@ -20,12 +20,10 @@ module _ (w : Weights) where
 
   module _ (g : Grid) (k : ℕ) where
     pub product_within : (b : ℕ) → b < 256 → Within most_weighted (pos (weight_in w b) *ℤ g.at b k)
-    product_within b h = within_mul 2560000 2000000 (pos (weight_in w b)) (g.at b k) (within_pos (weight_in w b) 2560000 (weight_most b h)) (g.within b k)
+    product_within b h = any_product (weight_in w) (λ b. g.at b k) small (λ b. g.within b k) b h
 
     pub sum_within : (n : ℕ) → n ≤ 256 → Within most_weighted (sum_z (λ b. pos (weight_in w b) *ℤ g.at b k) n)
-    sum_within n h =
-        within_more (sum_below (weight_in w) n * 2000000) most_weighted (sum_z (λ b. pos (weight_in w b) *ℤ g.at b k) n) (omega (arith, small, sum_part (weight_in w) n 256 h))
-        (within_sum (weight_in w) (λ b. g.at b k) 2000000 n (λ b. g.within b k))
+    sum_within n h = weighted_within (weight_in w) (λ b. g.at b k) small (λ b. g.within b k) n h
 
 term_same : (m n : ℕ) (x y : ℤ) → m ≡ n → (0 < m → x ≡ y) → pos m *ℤ x ≡ pos n *ℤ y
 term_same zero n x y e h = zero-*ℤ x ∙ sym (zero-*ℤ y) ∙ ap (λ (k : ℕ). pos k *ℤ y) e

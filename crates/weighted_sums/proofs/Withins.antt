@@ -8,6 +8,7 @@ use Rattle.bounds.specs.Bounds.{within}
 use Rattle.numbers.specs.Rounding.{Nearest}
 use Rattle.posting.specs.Grids.{Within}
 use Rattle.weighting.specs.Sums.{sum_below}
+use Rattle.weighting.specs.SumLaws.{sum_more, sum_part}
 use Rattle.weighted_sums.specs.Sums.{sum_z}
 
 pub within_zero : (h : ℕ) → Within h (pos 0)
@@ -38,6 +39,19 @@ within_sum w p m zero h = record { low = omega (arith, ints); high = omega (arit
 within_sum w p m (suc n) h =
     within_more (sum_below w n * m + w n * m) ((sum_below w n + w n) * m) _ (omega (arith, add-mul (sum_below w n) (w n) m))
     (within_add (sum_below w n * m) (w n * m) _ _ (within_sum w p m n h) (within_mul (w n) m (pos (w n)) (p n) (within_pos (w n) (w n) (omega arith)) (h n)))
+
+-- weights that sum to at most 2,560,000, and numbers within 2,000,000
+module _ (w : ℕ → ℕ) (p : ℕ → ℤ) (small : sum_below w 256 ≤ 2560000) (within : (b : ℕ) → Within 2000000 (p b)) where
+  pub one_weight : (b : ℕ) → b < 256 → w b ≤ 2560000
+  one_weight b h = omega (arith, sum_more w b, sum_part w (b + 1) 256 (omega arith))
+
+  pub weighted_within : (n : ℕ) → n ≤ 256 → Within 5120000000000 (sum_z (λ b. pos (w b) *ℤ p b) n)
+  weighted_within n h =
+      within_more (sum_below w n * 2000000) 5120000000000 (sum_z (λ b. pos (w b) *ℤ p b) n) (omega (arith, sum_part w n 256 h)) (within_sum w p 2000000 n within)
+
+  pub product_within : (b : ℕ) → b < 256 → Within 5120000000000 (pos (w b) *ℤ p b)
+  product_within b h =
+      within_mul 2560000 2000000 (pos (w b)) (p b) (within_pos (w b) 2560000 (one_weight b h)) (within b)
 
 -- a factor of at least c makes a number c times as large or more
 within_factor : (h c d : ℕ) (r : ℤ) → 0 < c → c ≤ d → Within (c * h) (r *ℤ pos d) → Within h r
