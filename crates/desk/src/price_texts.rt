@@ -73,7 +73,10 @@ fn origin_words(origin: Origin) -> &'static str
 #[cfg(test)]
 mod tests {
     use super::*;
+    use crate::replies::Reply;
+    use hour::calls::Call;
     use refusals::Refusal;
+    use script::writing::write;
     use std::test::Fail;
 
     // A price below 0 keeps its sign, and its cents have two digits.
@@ -82,6 +85,26 @@ mod tests {
         let price = PriceText::of(-25_105, Origin::Own);
         let text = format!(in rt.alloc(); "{price}")?;
         assert_eq!(rt; text.as_str(), "-$251.05, own weighting");
+        Ok(())
+    }
+
+    // The strings come out where there is memory: their contracts speak of that case alone.
+    #[test]
+    fn strings_come_out(rt: HostRuntime) -> Result<(), Fail> {
+        let price = price_text(rt.alloc(), -25_105, Origin::Own)?;
+        assert_eq!(rt; price.as_str(), "-$251.05, own weighting");
+        let call = Call::Place {
+            bus: 8,
+            hub_bus: 1,
+            zone: 0,
+        };
+        let line = write(rt.alloc(), &call)?;
+        assert_eq!(rt; line.as_str(), "place 8 1 0");
+        let reply = Reply::Answered(call, Err(Refusal::HubBusFull)).text(rt.alloc())?;
+        assert_eq!(rt;
+            reply.as_str(),
+            "place 8 1 0: refused 4, hub bus has eight other buses"
+        );
         Ok(())
     }
 
